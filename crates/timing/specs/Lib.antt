@@ -1,0 +1,4 @@
+pub mod Time
+pub mod Numbers
+pub mod Judged
+pub mod Clocks
