@@ -1,0 +1,4 @@
+pub mod Term
+pub mod Receiver
+pub mod Run
+pub mod Promise
