@@ -182,7 +182,7 @@ is-taken p b air s j k e t h =
     let f : walked (b .mac) (j - s .newest) k ≡ s .key = sameBytes-decides (walked (b .mac) (j - s .newest) k) (s .key) .0 (q .3) in
     let u = t .term in
     let same : val b (down (j - s .newest) u) ≡ keyBytes p b (s .newest) = val-down b (j - s .newest) u ∙ ap (walked (b .mac) (j - s .newest)) (sym (t .bytes)) ∙ f ∙ e in
-    let z : down (j - s .newest) u ≡ down (j - s .newest) (keyTerm p j) = t .apart same ∙ sym (chain-down 0 (p .last) j (s .newest) (omega arith) l) in
+    let z : down (j - s .newest) u ≡ down (j - s .newest) (keyTerm p j) = t .apart g same ∙ sym (chain-down 0 (p .last) j (s .newest) (omega arith) l) in
     record { after = g; low = l; near = ltb-false (s .newest + 1024) j (q .2); genuine = down-inj (j - s .newest) u (keyTerm p j) z }
 
 inside-learned : (p : Params) (b : Bytes) (air : List Term) (us : List Utterance) (c : ℕ) (s : State) (got : List Said) (kept : List Message) (j : ℕ) (k : List ℕ) → BringsKey p b air (s .newest) j k → Inside p b us c s got kept →

@@ -5,3 +5,6 @@ pub mod Delivery
 pub mod Air
 pub mod Always
 pub mod Promises
+pub mod Witness
+pub mod Wrong
+pub mod Cases

@@ -65,7 +65,7 @@ hears-key p x s =
     cond-both (isBuffered (judge p s x)) (record { clock = s .clock; newest = s .newest; key = s .key; buffer = s .buffer ++ (x ∷ []) }) s (λ u. u .key ≡ s .key) (λ e. refl) (λ e. refl)
 
 -- a genuine key is taken
-own-fits : (p : Params) (b : Bytes) (s : State) → s .key ≡ keyBytes p b (s .newest) → (j : ℕ) → s .newest < j → j ≤ p .last → j ≤ s .newest + 1024 → judgeKey p (b .mac) j (keyBytes p b j) s ≡ taken
+pub own-fits : (p : Params) (b : Bytes) (s : State) → s .key ≡ keyBytes p b (s .newest) → (j : ℕ) → s .newest < j → j ≤ p .last → j ≤ s .newest + 1024 → judgeKey p (b .mac) j (keyBytes p b j) s ≡ taken
 own-fits p b s a j h l n =
     let q : walked (b .mac) (j - s .newest) (keyBytes p b j) ≡ s .key =
     sym (val-down b (j - s .newest) (keyTerm p j)) ∙ ap (val b) (chain-down 0 (p .last) j (s .newest) (omega arith) l) ∙ sym a in

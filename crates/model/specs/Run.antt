@@ -1,9 +1,9 @@
 -- A sender with a clock that is the time, any number of receivers with clocks of their own, and an adversary who has the air.
-use mathlib.Core.Bool.{Bool, true, cond, _||_}
-use mathlib.Core.List.{List, [], _∷_, _++_, map, List·Memᴰ}
+use mathlib.Core.Bool.{cond}
+use mathlib.Core.List.{List, [], _∷_, _++_, List·Memᴰ}
 use mathlib.Core.Path.{_≡_}
-use Prim.Native.Nat.{ℕ, _+_, _-_, _≤_}
-use lib.Dec.{eqb, ltb, leb}
+use Prim.Native.Nat.{ℕ, _+_, _-_, _<_, _≤_}
+use lib.Dec.{eqb, ltb}
 use lib.ListN.{length}
 use Rattle.timing.specs.Time.{Params, intervalAt, release}
 use Rattle.model.specs.Term.{Term, Text, Gets, Bytes, val, Apart, chainKey, tagTerm, down}
@@ -77,12 +77,12 @@ siteAfter r e a = record {
   kept = keptAfter e (r .bufferOf (r .after e (a .held))) (a .kept);
 }
 
--- bytes that the adversary can bring as a key of interval j; the premise: what is worked out of them has the bytes of the key that is had only if it is that key
+-- bytes that the adversary can bring as a key of interval j; the premise: what is worked out of them has the bytes of the key that is had, with which it is compared, only if it is that key
 pub record BringsKey (p : Params) (b : Bytes) (air : List Term) (newest j : ℕ) (k : List ℕ) : Type 0 where
   pub term : Term
   pub can : Gets air term
   pub bytes : k ≡ val b term
-  pub apart : Apart b (down (j - newest) term) (keyTerm p newest)
+  pub apart : newest < j → Apart b (down (j - newest) term) (keyTerm p newest)
 
 -- bytes that the adversary can bring as a message; the premise: its tag has the bytes of the right one only if it is that tag
 pub record BringsTag (p : Params) (b : Bytes) (air : List Term) (x : Message) : Type 0 where
