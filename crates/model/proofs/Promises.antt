@@ -11,7 +11,7 @@ use Rattle.std.proofs.shelf.Equals.{sameBytes-decides}
 use Rattle.std.proofs.shelf.Tests.{and-parts, and-from, cases-bool, cond-both, cond-true, cond-false, leb-true, lt-leb, lt-ltb, le-leb, le-ltb, both-ways}
 use Rattle.timing.specs.Time.{Params, opening, release, intervalAt}
 use Rattle.model.specs.Term.{Bytes, Term, Gets, val, down}
-use Rattle.model.specs.Receiver.{Said, Message, Event, ticked, heard, disclosed, Outcome, buffered, already, taken, State, ours, inChain, isIn, hasRoom, judge, isBuffered, hears, walked, judgeKey, isTaken, laterThan, learns, delivers, keySteps, ticks, outcome, after, steps}
+use Rattle.model.specs.Receiver.{Said, Message, Event, ticked, heard, disclosed, Outcome, buffered, already, taken, State, ours, inChain, isIn, hasRoom, judge, isBuffered, hears, walked, judgeKey, isTaken, laterThan, learns, delivers, walkSteps, keySteps, ticks, outcome, after, steps}
 use Rattle.model.specs.Run.{keyTerm, keyBytes, messageOf, MaySay, World, BringsKey, Within, Brings}
 use Rattle.model.specs.Promise.{WasSaid, Discloses, Carries, Kept-promise, Meets}
 use Rattle.model.proofs.Terms.{chain-down, val-down}
@@ -83,7 +83,10 @@ learns-moves p b air s j k a t =
     (λ e. inr (refl, t .bytes ∙ ap (val b) (is-taken p b air s j k a t e .genuine))) (λ e. inl refl)
 
 steps-few : (p : Params) (j : ℕ) (s : State) → keySteps p j s ≤ 1024
-steps-few p j s = cond-both (inChain p j && leb j (s .newest + 1024)) (j - s .newest) 0 (λ n. n ≤ 1024) (λ e. omega (arith, leb-true j (s .newest + 1024) (and-parts (inChain p j) _ e .1))) (λ e. omega arith)
+steps-few p j s =
+    cond-both (inChain p j) (walkSteps j (s .newest)) 0 (λ n. n ≤ 1024)
+    (λ e. cond-both (leb j (s .newest + 1024)) (j - s .newest) 0 (λ n. n ≤ 1024) (λ q. omega (arith, leb-true j (s .newest + 1024) q)) (λ q. omega arith))
+    (λ e. omega arith)
 
 -- the key that a receiver has after a message
 heard-key : (p : Params) (b : Bytes) (x : Message) (s : State) → s .key ≡ keyBytes p b (s .newest) → hears p x s .key ≡ keyBytes p b (hears p x s .newest)

@@ -107,18 +107,24 @@ isBuffered (refused e) = false
 abbrev pub hears : Params → Message → State → State
 hears p x s = cond (isBuffered (judge p s x)) (record { clock = s .clock; newest = s .newest; key = s .key; buffer = s .buffer ++ (x ∷ []) }) s
 
--- what a key comes to that is said to be of interval j, lowest number first
-abbrev pub judgeKey : Params → MacFn → (interval : ℕ) → (key : List ℕ) → State → Outcome
-judgeKey p m j k s =
-    cond (not (inChain p j)) (refused OutOfRange)
-    (cond (leb j (s .newest)) (refused KeyNotAfter)
-    (cond (ltb (s .newest + 1024) j) (refused KeyTooFar)
-    (cond (not (sameBytes (walked m (j - s .newest) k) (s .key))) (refused KeyMisfit)
-    taken)))
+-- what a key comes to by the chain alone, lowest number first: it is said to be of interval j; had is the key of the newest interval
+abbrev pub judgeWalk : MacFn → (interval : ℕ) → (key : List ℕ) → (newest : ℕ) → (had : List ℕ) → Outcome
+judgeWalk m j k n had =
+    cond (leb j n) (refused KeyNotAfter)
+    (cond (ltb (n + 1024) j) (refused KeyTooFar)
+    (cond (not (sameBytes (walked m (j - n) k) had)) (refused KeyMisfit)
+    taken))
 
 -- how many keys are worked out for it
+abbrev pub walkSteps : (interval newest : ℕ) → ℕ
+walkSteps j n = cond (leb j (n + 1024)) (j - n) 0
+
+-- the same for a receiver: the interval has to be one of the chain's
+abbrev pub judgeKey : Params → MacFn → (interval : ℕ) → (key : List ℕ) → State → Outcome
+judgeKey p m j k s = cond (not (inChain p j)) (refused OutOfRange) (judgeWalk m j k (s .newest) (s .key))
+
 abbrev pub keySteps : Params → (interval : ℕ) → State → ℕ
-keySteps p j s = cond (inChain p j && leb j (s .newest + 1024)) (j - s .newest) 0
+keySteps p j s = cond (inChain p j) (walkSteps j (s .newest)) 0
 
 abbrev pub isTaken : Outcome → Bool
 isTaken told = false

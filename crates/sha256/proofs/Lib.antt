@@ -1,0 +1,5 @@
+pub mod Maj
+pub mod Steps
+pub mod Windows
+pub mod Buffers
+pub mod Keys
