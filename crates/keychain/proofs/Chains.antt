@@ -17,7 +17,7 @@ use Rattle.model.specs.Receiver.{refused, judgeWalk, walkSteps, walked, tagByte
 use Rattle.model.specs.Run.{keyTerm}
 use Rattle.model.proofs.Terms.{val-down}
 use Rattle.keychain.specs.declared.key.Key.{Key}
-use Rattle.keychain.specs.Chain.{keyDown, zeros, noKey, Collected, drawing, Terms-are, Chain-terms}
+use Rattle.keychain.specs.Chain.{keyDown, zeros, zeroKey, noKey, Collected, drawing, Terms-are, Chain-terms}
 
 pub down-none : (k : List ℕ) → keyDown 0 k ≡ k
 unfolding walked
@@ -40,7 +40,7 @@ collected-other n w k x f q =
           q ∙ cond-false (ltb w n) (keyDown w k) zeros (le-ltb w n h) ∙ sym (cond-false (ltb w (n + 1)) (keyDown w k) zeros (le-ltb w (n + 1) g))
     ]
 
-pub collected-none : (n : ℕ) (k wanted : List ℕ) (keys : List Key) → n ≡ 0 → ((i : ℕ) → i < 64 → getD keys i noKey ≡ noKey) → Collected n k wanted keys
+pub collected-none : (n : ℕ) (k wanted : List ℕ) (keys : List Key) → n ≡ 0 → ((i : ℕ) → i < 64 → getD keys i noKey ≡ zeroKey) → Collected n k wanted keys
 collected-none n k wanted keys e f i h =
     ap (λ (x : Key). x .bytes) (f i h) ∙ sym (cond-false (ltb (getD wanted i 0) n) (keyDown (getD wanted i 0) k) zeros (le-ltb (getD wanted i 0) n (omega arith)))
 

@@ -34,8 +34,12 @@ walkOutcomeOf (Err e) = refused e
 abbrev pub zeros : List ℕ
 zeros = replicate 32 0
 
+abbrev pub zeroKey : Key
+zeroKey = record { bytes = zeros }
+
+-- what is read past the end of a list of keys
 abbrev pub noKey : Key
-noKey = record { bytes = zeros }
+noKey = record { bytes = [] }
 
 -- of n keys worked out from this one, at each place the one that it wants, so many intervals before; zeros where it wants none of them
 abbrev pub Collected : (n : ℕ) → (key : List ℕ) → (wanted : List ℕ) → List Key → Type 0

@@ -3,7 +3,7 @@ ghost use mathlib.Core.List.{List, [], _∷_};
 ghost use mathlib.Core.Path.{_≡_};
 ghost use Prim.Native.Nat.{ℕ, _<_, _≤_};
 ghost use lib.ListN.{getD};
-ghost use Rattle.keychain.specs.Chain.{stepped, keyDown, tagged, noKey, walkOutcomeOf, Collected, Chain-terms};
+ghost use Rattle.keychain.specs.Chain.{stepped, keyDown, tagged, noKey, zeroKey, walkOutcomeOf, Collected, Chain-terms};
 ghost use Rattle.model.specs.Receiver.{judgeWalk, walkSteps};
 ghost use Rattle.sha256.specs.Hmac.{hmac};
 ghost use Rattle.std.specs.shelf.Text.{sameBytes};
@@ -71,7 +71,7 @@ pub struct Walked {
 }
 
 fn no_keys() -> [Key; PLACES]
-    ensures { λ r. ⌜ ((i : ℕ) → i < 64 → getD r i noKey ≡ noKey) ⌝ }
+    ensures { λ r. ⌜ ((i : ℕ) → i < 64 → getD r i noKey ≡ zeroKey) ⌝ }
 {
     [Key { bytes: [0; 32] }; PLACES]
 }
