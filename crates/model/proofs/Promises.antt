@@ -82,7 +82,7 @@ learns-moves p b air s j k a t =
     (λ u. (u .newest ≡ s .newest) ⊎ ((j ≡ u .newest) × (k ≡ keyBytes p b (u .newest))))
     (λ e. inr (refl, t .bytes ∙ ap (val b) (is-taken p b air s j k a t e .genuine))) (λ e. inl refl)
 
-steps-few : (p : Params) (j : ℕ) (s : State) → keySteps p j s ≤ 1024
+pub steps-few : (p : Params) (j : ℕ) (s : State) → keySteps p j s ≤ 1024
 steps-few p j s =
     cond-both (inChain p j) (walkSteps j (s .newest)) 0 (λ n. n ≤ 1024)
     (λ e. cond-both (leb j (s .newest + 1024)) (j - s .newest) 0 (λ n. n ≤ 1024) (λ q. omega (arith, leb-true j (s .newest + 1024) q)) (λ q. omega arith))

@@ -1,0 +1,4 @@
+// A receiver: clock, buffer and newest key, in fixed memory.
+pub mod outcome;
+mod rules;
+pub mod state;
