@@ -1,4 +1,5 @@
 // A receiver: clock, buffer and newest key, in fixed memory.
+pub mod calls;
 pub mod outcome;
 mod rules;
 pub mod state;

@@ -1,4 +1,4 @@
-pub mod Maj
+pub mod Bitwise
 pub mod Steps
 pub mod Windows
 pub mod Buffers

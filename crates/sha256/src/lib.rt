@@ -38,7 +38,7 @@ fn small_sigma1(x: u32) -> u32
 fn choose(x: u32, y: u32, z: u32) -> u32
     ensures { λ r. ⌜ r ≡ ch x y z ⌝ }
 {
-    (x & y) ^ (!x & z)
+    ((y ^ z) & x) ^ z
 }
 
 fn majority(x: u32, y: u32, z: u32) -> u32

@@ -1,5 +1,5 @@
 use native.Mathlib.Omega.{arith}
-use Rattle.sha256.proofs.Maj.{quick-majority}
+use Rattle.sha256.proofs.Bitwise.{quick-majority}
 use Rattle.sha256.proofs.majority.Needs as need
 
 pub returns : need.returns
