@@ -5,6 +5,7 @@ pub mod room;
 use crate::message::Buffered;
 use crate::message::Numbers;
 use crate::room::Buffer;
+use keychain::PLACES;
 use keychain::key::Key;
 use keychain::same_bytes;
 use timing::refusal::Refusal;
@@ -144,7 +145,7 @@ impl Buffer {
         ensures count { λ _. ⌜ now (self .exit) .len ≡ cond (ltb (now (self .entry) .len) 64) (now (self .entry) .len + 1) (now (self .entry) .len) ⌝ }
         ensures messages { λ _. ⌜ messagesOf (now (self .exit)) ≡ cond (ltb (now (self .entry) .len) 64) (messagesOf (now (self .entry)) ++ asMessage k ∷ []) (messagesOf (now (self .entry))) ⌝ }
     {
-        if self.len < 64 {
+        if self.len < PLACES {
             self.messages[self.len] = k;
             self.len += 1;
         }

@@ -16,10 +16,14 @@ use crate::state::Receiver;
 use buffer::message::Buffered;
 use buffer::message::Numbers;
 use buffer::room::Buffer;
+use keychain::PLACES;
 use keychain::key::Key;
 use keychain::walk;
 use timing::parameters::Parameters;
 use timing::refusal::Refusal;
+
+// At most so many messages of an interval are buffered.
+const PLACES_OF_INTERVAL: usize = 16;
 
 // Whether interval and index are within their limits.
 fn in_range(p: Parameters, n: Numbers) -> bool
@@ -28,11 +32,11 @@ fn in_range(p: Parameters, n: Numbers) -> bool
     n.interval > 0 && n.interval <= p.last && n.index <= 63
 }
 
-// 64 messages in all, 16 of an interval.
+// Whether there is room for one more of an interval.
 fn has_room(buffer: &Buffer, interval: u16) -> bool
     ensures { λ r. ⌜ r ≡ hasRoom (messagesOf (now (buffer .entry))) interval ⌝ }
 {
-    buffer.len < 64 && buffer.of_interval(interval) < 16
+    buffer.len < PLACES && buffer.of_interval(interval) < PLACES_OF_INTERVAL
 }
 
 // What a message comes to, the lowest number first.

@@ -3,26 +3,24 @@ use mathlib.Core.Bool.{Bool, true, false, cond, _&&_}
 use mathlib.Core.List.{List, [], _∷_, _++_}
 use mathlib.Core.Logic.{_⊎_, inl, inr, ⊎-elim}
 use mathlib.Core.Path.{_≡_, refl, sym, ap, _∙_}
-use Prim.Native.Nat.{ℕ, _+_, _-_, _≤_, _<_}
+use Prim.Native.Nat.{ℕ, _+_, _≤_, _<_}
 use native.Mathlib.Omega.{arith}
 use lib.Dec.{eqb, leb}
 use lib.ListN.{length, getD, take, drop, length-drop}
 use Rattle.std.proofs.shelf.Lists.{take-append-drop, getD-drop, getD-take, length-take-le, drop-all, append-nil, nil-from-length}
 use Rattle.std.proofs.shelf.Tests.{and-parts, and-left, and-right, cases-lt, cond-false, eqb-true, leb-true, ne-eqb}
-use Rattle.std.specs.declared.option.Option.{Option}
 use Rattle.std.specs.declared.option.Option.the-variants.{Some, None}
 use Rattle.std.specs.declared.result.Result.{Result}
 use Rattle.std.specs.declared.result.Result.the-variants.{Ok, Err}
-use Rattle.timing.specs.Time.{inRange}
 use Rattle.timing.specs.declared.refusal.Refusal.{Refusal}
 use Rattle.timing.specs.declared.refusal.Refusal.the-variants.{Malformed, BadSettings}
 use Rattle.model.specs.Receiver.{Said, Event}
-use Rattle.wire.specs.Bytes.{eight, eightAt}
+use Rattle.wire.specs.Bytes.{eightAt}
 use Rattle.wire.specs.Fits.{Bytes}
 use Rattle.wire.specs.Formats.{Key, Packet, keyPart, keyPartIn, saidBytes, saidIn, behindText, hasForm, packetIn, messageEncoded, readMessage, keyEncoded, readKey, airEvent, messageEvent, keyEvent, tickEncoded, readTick, deliveryEncoded, readDelivery}
 use Rattle.wire.specs.Laws.{eventEncoded}
 use Rattle.wire.specs.Setup.{Setup, setupIn, settingsEncoded, settingsAnswer}
-use Rattle.wire.proofs.Eight.{eight-again, spread, spread-is}
+use Rattle.wire.proofs.Eight.{eight-again, spread-is}
 use Rattle.wire.proofs.Whole.{two-high, two-low, key-part-again, said-again}
 
 -- what a test and a `Some` behind it give

@@ -1,17 +1,15 @@
 -- What is written is read back as it was.
-use mathlib.Core.Bool.{Bool, true, false, cond, _&&_}
-use mathlib.Core.List.{List, [], _∷_, _++_}
+use mathlib.Core.Bool.{true}
+use mathlib.Core.List.{List, [], _++_}
 use mathlib.Core.Path.{_≡_, refl, sym, ap, _∙_}
-use Prim.Native.Nat.{ℕ, _+_, _-_, _*_, _/_, _%_, _^_, _≤_, _<_}
+use Prim.Native.Nat.{ℕ, _+_, _*_, _/_, _%_, _^_, _≤_, _<_}
 use native.Mathlib.Omega.{arith}
-use lib.Dec.{eqb, leb}
-use lib.ListN.{length, getD, take, drop, length-drop, length-append}
+use lib.ListN.{length, length-append}
 use Rattle.std.proofs.shelf.Tests.{cond-true, and-from, eq-eqb, le-leb}
 use Rattle.std.proofs.shelf.Lists.{take-at, drop-at, append-nil}
-use Rattle.std.specs.declared.option.Option.the-variants.{Some, None}
-use Rattle.model.specs.Receiver.{Said, Event}
+use Rattle.std.specs.declared.option.Option.the-variants.{Some}
+use Rattle.model.specs.Receiver.{Said}
 use Rattle.wire.proofs.Eight.{eight-back}
-use Rattle.wire.specs.Bytes.{twoAt}
 use Rattle.wire.specs.Fits.{SaidFits, KeyFits, PacketFits}
 use Rattle.wire.specs.Formats.{Key, Packet, keyPart, keyPartIn, saidBytes, saidIn, behindText, hasForm, packetIn, messageEncoded, readMessage, keyEncoded, readKey, deliveryEncoded, readDelivery, tickEncoded, readTick, airEvent, messageEvent, keyEvent}
 

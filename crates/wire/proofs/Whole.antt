@@ -1,11 +1,11 @@
 -- What is read, written again, gives the same bytes.
-use mathlib.Core.Bool.{Bool, true, false, cond, _&&_}
+use mathlib.Core.Bool.{false}
 use mathlib.Core.List.{List, [], _∷_, _++_}
-use mathlib.Core.Path.{_≡_, refl, sym, ap, _∙_}
-use Prim.Native.Nat.{ℕ, suc, _+_, _-_, _*_, _/_, _%_, _≤_, _<_}
+use mathlib.Core.Path.{_≡_, sym, ap, _∙_}
+use Prim.Native.Nat.{ℕ, _+_, _-_, _*_, _/_, _%_, _≤_, _<_}
 use native.Mathlib.Omega.{arith}
 use lib.Dec.{eqb, leb}
-use lib.ListN.{length, getD, take, drop, length-drop, length-append}
+use lib.ListN.{length, getD, take, drop, length-append}
 use Rattle.std.proofs.shelf.Tests.{and-right, ne-eqb}
 use Rattle.std.proofs.shelf.Lists.{take-rest, take-at, take-append-drop, length-take-le, nil-from-length, append-nil}
 use Rattle.model.specs.Receiver.{Said, messageBytes}

@@ -1,9 +1,8 @@
 -- Settings, over lists of numbers: the first tick's date (8), ticks of an interval (2), disclosure delay (1), error of a clock (2),
 -- last interval (2), key 0 (32).
 use mathlib.Core.Bool.{cond}
-use mathlib.Core.List.{List, [], _∷_, _++_}
-use mathlib.Core.Path.{_≡_}
-use Prim.Native.Nat.{ℕ, _<_}
+use mathlib.Core.List.{List, _∷_, _++_}
+use Prim.Native.Nat.{ℕ}
 use lib.Dec.{eqb}
 use lib.ListN.{length, getD, drop}
 use Rattle.std.specs.declared.result.Result.{Result}

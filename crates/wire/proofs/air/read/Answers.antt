@@ -1,6 +1,6 @@
 use native.Mathlib.Omega.{arith}
 use borrow.Author.Tests.{ltb-false, eqb-true}
-use mathlib.Core.Path.{refl, ap, sym, _∙_}
+use mathlib.Core.Path.{ap, _∙_}
 use Rattle.wire.proofs.Reading.{message-event, key-event}
 use Rattle.wire.proofs.Whole.{key-whole}
 use Rattle.wire.specs.Formats.{airEvent}

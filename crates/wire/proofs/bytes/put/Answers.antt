@@ -1,4 +1,3 @@
-use mathlib.Core.Path.{_≡_}
 use Rattle.wire.proofs.Memory.{over-more}
 use Rattle.wire.proofs.bytes.put.Needs as need
 

@@ -1,8 +1,7 @@
 use borrow.Author.Needs.{needs}
 use native.Mathlib.Omega.{arith}
-use mathlib.Core.Path.{refl, ap, sym, _∙_}
-use lib.ListN.{length, length-append, length-drop}
-use Rattle.std.proofs.shelf.Lists.{length-take-le}
+use mathlib.Core.Path.{refl, ap}
+use lib.ListN.{length, length-append}
 use Rattle.wire.proofs.Whole.{form-not, message-whole, under-tag, tag-long}
 use Rattle.wire.proofs.message.read.Needs as need
 

@@ -29,5 +29,4 @@ returns c =
     let y = c .put-2 .ensures (s ++ g) old (omega (arith, length-append s g, d .1, lg)) x in
     let z = c .put-3 .ensures ((s ++ g) ++ t) old (omega (arith, length-append s g, length-append (s ++ g) t, d .1, l, lg)) y in
     let w : ((s ++ g) ++ t) ++ k ≡ s ++ (g ++ (n ++ k)) = ap (λ (u : List ℕ). ((s ++ g) ++ u) ++ k) e ∙ (append-assoc (s ++ g) n k ∙ append-assoc s g (n ++ k)) in
-    let m : c .in-Ok .count + 50 ≡ length (s ++ (g ++ (n ++ k))) = omega (arith, length-append s (g ++ (n ++ k)), length-append g (n ++ k), length-append n k, d .1, lg, lk) in
-    record { answer = ap (λ i. Ok i) m ∙ sym (cond-true _ _ _ (d .0)); memory = (z ∙ ap (λ (u : List ℕ). over u old) w) ∙ sym (cond-true _ _ _ (d .0)) }
+    record { answer = ap (λ i. Ok i) (omega (arith, length-append s (g ++ (n ++ k)), length-append g (n ++ k), length-append n k, d .1, lg, lk)) ∙ sym (cond-true _ _ _ (d .0)); memory = (z ∙ ap (λ (u : List ℕ). over u old) w) ∙ sym (cond-true _ _ _ (d .0)) }

@@ -8,9 +8,9 @@ use Rattle.buffer.specs.Buffers.{messagesIn}
 use Rattle.buffer.proofs.Lists.{messages-push}
 use Rattle.buffer.proofs.room.Buffer.push.Needs as need
 
-pub returns-then-self-lt64 : need.returns-then-self-lt64
-returns-then-self-lt64 c =
+pub returns-then-self-lt-PLACES : need.returns-then-self-lt-PLACES
+returns-then-self-lt-PLACES c =
     let s = c .args .self .now in
-    let t = lt-ltb (s .len) 64 (c .if-self-lt64 .taken) in
+    let t = lt-ltb (s .len) 64 (c .if-self-lt-PLACES .taken) in
     let h : s .len < length (s .messages) = omega (arith, s .sized) in
     record { count = rw t; messages = rw t (ap messagesIn (take-more-set (s .messages) (s .len) (c .args .k) h) ∙ messages-push _ (c .args .k)) }
