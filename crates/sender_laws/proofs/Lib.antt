@@ -1,0 +1,6 @@
+pub mod Cases
+pub mod Said
+pub mod Alone
+pub mod Turned
+pub mod Worlds
+pub mod Ends

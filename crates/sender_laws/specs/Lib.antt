@@ -1,0 +1,4 @@
+pub mod Run
+pub mod Turned
+pub mod Worlds
+pub mod Ends
