@@ -21,13 +21,17 @@ use wire::settings;
 
 // size_t tesla_receiver_size(void);
 #[unsafe(no_mangle)]
-pub extern "C" fn tesla_receiver_size() -> usize {
+pub extern "C" fn tesla_receiver_size() -> usize
+    ensures { λ r. ⌜ r ≡ 14144 ⌝ }
+{
     size_of::<Receiver>()
 }
 
 // size_t tesla_deliveries_size(void);
 #[unsafe(no_mangle)]
-pub extern "C" fn tesla_deliveries_size() -> usize {
+pub extern "C" fn tesla_deliveries_size() -> usize
+    ensures { λ r. ⌜ r ≡ 14088 ⌝ }
+{
     size_of::<Buffer>()
 }
 
