@@ -16,14 +16,15 @@ use crate::state::Receiver;
 use buffer::message::Buffered;
 use buffer::message::Numbers;
 use buffer::room::Buffer;
-use keychain::PLACES;
 use keychain::key::Key;
 use keychain::walk;
 use timing::parameters::Parameters;
 use timing::refusal::Refusal;
 
-// At most so many messages of an interval are buffered.
-const PLACES_OF_INTERVAL: usize = 16;
+// At most so many messages are buffered, and of an interval.
+const ROOM: usize = 64;
+
+const ROOM_OF_INTERVAL: usize = 16;
 
 // Whether interval and index are within their limits.
 fn in_range(p: Parameters, n: Numbers) -> bool
@@ -36,7 +37,7 @@ fn in_range(p: Parameters, n: Numbers) -> bool
 fn has_room(buffer: &Buffer, interval: u16) -> bool
     ensures { λ r. ⌜ r ≡ hasRoom (messagesOf (now (buffer .entry))) interval ⌝ }
 {
-    buffer.len < PLACES && buffer.of_interval(interval) < PLACES_OF_INTERVAL
+    buffer.len < ROOM && buffer.of_interval(interval) < ROOM_OF_INTERVAL
 }
 
 // What a message comes to, the lowest number first.
