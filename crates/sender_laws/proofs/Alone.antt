@@ -4,15 +4,18 @@ use mathlib.Core.Path.{_≡_, refl, sym, ap, _∙_}
 use mathlib.Core.Bool.{Bool, true, false, cond}
 use mathlib.Core.Logic.{_⊎_, inl, inr, ⊎-elim}
 use mathlib.Core.List.{List, [], _∷_, _++_, List·Memᴰ, List·Memᴰ·head, List·Memᴰ·tail, List·Memᴰ·cases-cons, List·Memᴰ·not-nil}
+use native.Mathlib.Nat.{zero-div}
 use native.Mathlib.Omega.{arith}
 use lib.Dec.{ltb, eqb, leb}
 use Rattle.std.proofs.shelf.Tests.{cases-lt, cases-eq, lt-ltb, le-ltb, lt-leb, cond-true, cond-false}
 use Rattle.std.proofs.shelf.Ways.{tells as ways}
 use Rattle.timing.specs.Time.{Params, intervalAt}
-use Rattle.segments.specs.Work.{Rising}
-use Rattle.segments.proofs.Work as work
-use Rattle.sender.specs.State.{State, firstState, interval, newest, advanced, due, alone, toldAlone, shownKey, ticked, tickAnswer, said, afterSaid}
-use Rattle.sender_laws.specs.Run.{Event, tick, say, step, toldByTick, aloneIn, allAlones, entered, allEntered, Ascending, ByItself, WorkedOnce}
+use Rattle.segments.specs.Parts.{partOf}
+use Rattle.segments.specs.Work.{works, Rising}
+use Rattle.segments.specs.Work.{work as partsWork}
+use Rattle.segments.proofs.Work as segments-work
+use Rattle.sender.specs.State.{State, firstState, interval, newest, workAt, advanced, due, alone, toldAlone, shownKey, ticked, tickAnswer, said, afterSaid}
+use Rattle.sender_laws.specs.Run.{Event, tick, say, step, worked, allWorked, toldByTick, aloneIn, allAlones, entered, allEntered, Ascending, ByItself, WorkedOnce}
 use Rattle.sender_laws.proofs.Cases.{tick-cases, say-cases, shown-cases, told-shown, alone-some, later, fixed-tick, fixed-said}
 
 ascending-from : (a b : ℕ) (xs : List ℕ) → a ≤ b → Ascending b xs → Ascending a xs
@@ -124,5 +127,35 @@ enters-rising s (tick t ∷ es) pos =
     (λ h d. rw (taken-tick s t h) (later s t pos h, enters-rising (advanced s t) es pos))
     (λ h d. rw (taken-tick s t h) (later s t pos h, enters-rising (toldAlone (advanced s t)) es pos))
 
+works-more : (last delay part i : ℕ) (is : List ℕ) → works last delay part (i ∷ is) ≡ partsWork last delay part (partOf last i) ++ works last delay (partOf last i) is
+unfolding works
+works-more last delay part i is = refl
+
+works-none : (last delay part : ℕ) → works last delay part [] ≡ []
+unfolding works
+works-none last delay part = refl
+
+no-work : (s : State) (t : ℕ) → t < s .clock → worked s (tick t) ≡ []
+no-work s t h = cond-true (ltb t (s .clock)) _ _ (lt-ltb t (s .clock) h)
+
+some-work : (s : State) (t : ℕ) → s .clock ≤ t → worked s (tick t) ≡ workAt s t
+some-work s t h = cond-false (ltb t (s .clock)) _ _ (le-ltb t (s .clock) h)
+
+-- what is worked out goes by the intervals that are entered
+worked-is : (s : State) (es : List Event) → allWorked s es ≡ works (s .numbers .last) (s .numbers .delay) (partOf (s .numbers .last) (interval s)) (allEntered s es)
+worked-is s [] = sym (works-none _ _ _)
+worked-is s (say text ∷ es) =
+    say-cases s text (λ u a. allWorked u es ≡ works (s .numbers .last) (s .numbers .delay) (partOf (s .numbers .last) (interval s)) (allEntered u es)) (worked-is s es) (worked-is s es)
+    (λ h m. worked-is (afterSaid s) es)
+worked-is s (tick t ∷ es) =
+    tick-cases s t (λ u a. worked s (tick t) ++ allWorked u es ≡ works (s .numbers .last) (s .numbers .delay) (partOf (s .numbers .last) (interval s)) (entered s (tick t) ++ allEntered u es))
+    (λ h. rw (no-work s t h, refused-tick s t h) (worked-is s es))
+    (λ h d. rw (some-work s t h, taken-tick s t h) (ap (λ ys. workAt s t ++ ys) (worked-is (advanced s t) es) ∙ sym (works-more _ _ _ _ _)))
+    (λ h d. rw (some-work s t h, taken-tick s t h) (ap (λ ys. workAt s t ++ ys) (worked-is (toldAlone (advanced s t)) es) ∙ sym (works-more _ _ _ _ _)))
+
 pub worked-once : WorkedOnce
-worked-once p d es x pos small = work.once (p .last) (p .delay) (allEntered (firstState p d) es) x small (rising-from 1 (interval (firstState p d)) _ (omega arith) (enters-rising (firstState p d) es pos))
+worked-once p d es x pos small =
+    let s = firstState p d in
+    let at-first : partOf (p .last) (interval s) ≡ 0 = rw (zero-div (p .ticks)) (omega arith) in
+    let once = segments-work.once (p .last) (p .delay) (allEntered s es) x small (rising-from 1 (interval s) (allEntered s es) (omega arith) (enters-rising s es pos)) in
+    rw (worked-is s es, at-first) once

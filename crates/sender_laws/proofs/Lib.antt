@@ -4,3 +4,4 @@ pub mod Alone
 pub mod Turned
 pub mod Worlds
 pub mod Ends
+pub mod Back

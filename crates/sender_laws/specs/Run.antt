@@ -7,8 +7,8 @@ use mathlib.Core.Logic.{_⊎_}
 use lib.Dec.{ltb}
 use Rattle.timing.specs.Time.{Params, intervalAt, release}
 use Rattle.model.specs.Receiver.{Said}
-use Rattle.segments.specs.Work.{life, times}
-use Rattle.sender.specs.State.{State, firstState, interval, keyOf, ticked, tickAnswer, Ticked, back, nothing, told, said, sayAnswer, Spoken, refused, sent}
+use Rattle.segments.specs.Work.{partWork, times}
+use Rattle.sender.specs.State.{State, firstState, interval, workAt, ticked, tickAnswer, Ticked, back, nothing, told, said, sayAnswer, Spoken, refused, sent}
 
 -- what a sender is asked for
 pub data Event : Type 0 where
@@ -97,6 +97,15 @@ pub record ByItself : Type 0 where
       p .delay + 1 < i → i ≤ p .last + p .delay + 1 → List·Memᴰ i (allAlones (firstState p d) es)
   pub last-told : (s : State) (t : ℕ) → 0 < tells s (tick t) → interval (ticked s t) ≡ s .numbers .last + s .numbers .delay + 1 → tells s (tick t) ≡ s .numbers .last
 
--- In a life of the chain, after it was made, no key is worked out more than once: not even that of a part that is entered again.
+-- the intervals whose keys are worked out in a run
+abbrev pub worked : State → Event → List ℕ
+worked s (tick t) = cond (ltb t (s .clock)) [] (workAt s t)
+worked s (say text) = []
+
+abbrev pub allWorked : State → List Event → List ℕ
+allWorked s [] = []
+allWorked s (e ∷ es) = worked s e ++ allWorked (step s e) es
+
+-- In a life of the chain no key is worked out more than once after the chain was made: those of the first part, as it was made ready, and those of the parts that are entered.
 abbrev pub WorkedOnce : Type 0
-WorkedOnce = (p : Params) (d : List ℕ) (es : List Event) (x : ℕ) → 0 < p .ticks → p .delay ≤ 8 → times x (life (p .last) (p .delay) (allEntered (firstState p d) es)) ≤ 1
+WorkedOnce = (p : Params) (d : List ℕ) (es : List Event) (x : ℕ) → 0 < p .ticks → p .delay ≤ 8 → times x (partWork (p .last) 0 ++ allWorked (firstState p d) es) ≤ 1

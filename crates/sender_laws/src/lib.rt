@@ -1,5 +1,5 @@
 // What is promised of every run of a sender, and its calls in the model's worlds.
-ghost use Rattle.sender_laws.specs.Ends.{BothEnds};
+ghost use Rattle.sender_laws.specs.Ends.{BothEnds, BroughtBack};
 ghost use Rattle.sender_laws.specs.Run.{NoTwice, NoneEarly, ByItself, WorkedOnce};
 ghost use Rattle.sender_laws.specs.Turned.{InTurn, OutOfTurn, OneOfTwo, AllWithin, HeardAgain};
 ghost use Rattle.sender_laws.specs.Worlds.{Lawful, StandsFirst, Undisturbed, Genuine};
@@ -37,9 +37,10 @@ pub fn worlds_stand() -> u8
     0
 }
 
-// What is sent is heard.
+// What is sent is heard, and brings back a receiver that missed any number of intervals.
 pub fn both_ends_stand() -> u8
-    ensures { λ _. ⌜ BothEnds ⌝ }
+    ensures heard { λ _. ⌜ BothEnds ⌝ }
+    ensures back { λ _. ⌜ BroughtBack ⌝ }
 {
     0
 }
