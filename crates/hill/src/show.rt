@@ -7,7 +7,7 @@ use std::io;
 use timing::refusal::Refusal;
 use timing::safety::Judgement;
 
-fn reason(refusal: Refusal) -> &'static str {
+pub fn reason(refusal: Refusal) -> &'static str {
     match refusal {
         Refusal::Malformed => "not a command in its form and place",
         Refusal::OutOfRange => "an interval, a receiver or a count out of range",
@@ -31,10 +31,9 @@ fn outcome(judgement: Judgement) -> &'static str {
     }
 }
 
-fn show_fault(rt: &LibcRuntime, name: &str, fault: Fault) -> io::Result<()> {
+pub fn show_fault(rt: &LibcRuntime, name: &str, fault: Fault, why: &str) -> io::Result<()> {
     let line = fault.line;
     let number = fault.refusal.number();
-    let why = reason(fault.refusal);
     println!(rt, "{name}: line {line}: refused {number}: {why}")
 }
 
@@ -71,7 +70,7 @@ pub fn show_script(rt: &LibcRuntime, name: &str, script: &[u8]) -> io::Result<bo
             Ok(true)
         }
         Err(Error::Faulty(fault)) => {
-            show_fault(rt, name, fault)?;
+            show_fault(rt, name, fault, reason(fault.refusal))?;
             Ok(false)
         }
         Err(Error::NoMemory) => {

@@ -22,7 +22,7 @@ use Rattle.turns.specs.Turns.{disclosed, afterwards}
 use Rattle.turns.specs.Laws.{learned, Caught}
 use Rattle.sender.specs.State.{State, interval, newest, keyOf, advanced, due, alone, toldAlone, ticked, said, afterSaid, mayNot, keyShown, messageOf}
 use Rattle.sender_laws.specs.Run.{Event, tick, say, step, toldByTick, toldBySaid, tells}
-use Rattle.sender_laws.specs.Turned.{asks, allAsks}
+use Rattle.sender_laws.specs.Turned.{some, asks, allAsks}
 use Rattle.sender_laws.specs.Ends.{hearsTick, hearsSpoken, hearing, Recovers, BroughtBack}
 use Rattle.sender_laws.proofs.Cases.{tick-cases, say-cases, shown-cases, alone-most, disclosed-most, later}
 use Rattle.sender_laws.proofs.Turned.{Unasked, Asked, at-event, fixed, heard-again}
@@ -125,13 +125,13 @@ hears-so s (say text) r is =
 -- past the last interval nothing is in turn
 asks-none : (s : State) (e : Event) → 0 < s .numbers .ticks → s .numbers .last < interval s → asks s e ≡ []
 asks-none s (tick t) pos h =
-    cond-both (ltb t (s .clock)) [] (cond (due (advanced s t)) (cond (leb (interval (advanced s t)) (s .numbers .last)) (newest (advanced s t) ∷ []) []) []) (λ ns. ns ≡ [])
+    cond-both (ltb t (s .clock)) [] (cond (due (advanced s t)) (cond (leb (interval (advanced s t)) (s .numbers .last)) (some (newest (advanced s t))) []) []) (λ ns. ns ≡ [])
     (λ e. refl)
-    (λ e. cond-both (due (advanced s t)) (cond (leb (interval (advanced s t)) (s .numbers .last)) (newest (advanced s t) ∷ []) []) [] (λ ns. ns ≡ [])
+    (λ e. cond-both (due (advanced s t)) (cond (leb (interval (advanced s t)) (s .numbers .last)) (some (newest (advanced s t))) []) [] (λ ns. ns ≡ [])
     (λ d. cond-false _ _ _ (lt-leb (interval (advanced s t)) (s .numbers .last) (omega (arith, later s t pos (ltb-false t (s .clock) e)))))
     (λ d. refl))
 asks-none s (say text) pos h =
-    cond-both (ltb 200 (length text)) [] (cond (mayNot s) [] (newest s ∷ [])) (λ ns. ns ≡ []) (λ e. refl) (λ e. cond-true _ _ _ (or-left _ _ (lt-ltb (s .numbers .last) (interval s) h)))
+    cond-both (ltb 200 (length text)) [] (cond (mayNot s) [] (some (newest s))) (λ ns. ns ≡ []) (λ e. refl) (λ e. cond-true _ _ _ (or-left _ _ (lt-ltb (s .numbers .last) (interval s) h)))
 
 still-past : (s : State) (e : Event) → 0 < s .numbers .ticks → s .numbers .last < interval s → step s e .numbers .last < interval (step s e)
 still-past s (tick t) pos h = tick-cases s t (λ u a. u .numbers .last < interval u) (λ l. h) (λ l d. omega (arith, later s t pos l)) (λ l d. omega (arith, later s t pos l))

@@ -8,7 +8,7 @@ use native.Mathlib.Omega.{arith}
 use lib.Dec.{eqb, ltb, leb}
 use lib.ListN.{length, take}
 use Rattle.std.proofs.shelf.Lists.{length-take-le}
-use Rattle.std.proofs.shelf.Tests.{cases-lt, cases-bool, lt-ltb, le-ltb, leb-false, cond-true, cond-false}
+use Rattle.std.proofs.shelf.Tests.{cases-lt, cases-bool, cases-eq, ne-eqb, lt-ltb, le-ltb, leb-false, cond-true, cond-false}
 use Rattle.turns.specs.declared.Turn.{Turn}
 use Rattle.turns.specs.Turns.{disclosed, afterwards, disclosures}
 use Rattle.turns.specs.Laws.{Caught, Rising, OneNewest}
@@ -17,7 +17,7 @@ use Rattle.turns.proofs.Laws.{all, one-newest}
 use Rattle.sender.specs.State.{State, interval, newest, advanced, due, alone, shownKey, ticked, said, mayNot}
 use Rattle.sender.proofs.Ticks.{at-back, at-none, at-due, too-long, out-of-range, at-sent}
 use Rattle.sender_laws.specs.Run.{Event, tick, say, step, toldByTick, toldBySaid, tells}
-use Rattle.sender_laws.specs.Turned.{asks, allAsks, allAnswers, InTurn, OutOfTurn, OneOfTwo, AllWithin, HeardAgain}
+use Rattle.sender_laws.specs.Turned.{some, asks, allAsks, allAnswers, InTurn, OutOfTurn, OneOfTwo, AllWithin, HeardAgain}
 use Rattle.sender_laws.proofs.Cases.{told-shown, later, fixed-tick, fixed-said, Fixed}
 
 -- what an event does to the turn: nothing, and what it discloses is the newest or none
@@ -36,6 +36,9 @@ pub record Asked (s : State) (e : Event) : Type 0 where
   pub from : 0 < s .numbers .ticks → newest s ≤ n
   pub here : newest (step s e) ≡ n
 
+some-is : (n : ℕ) → (n ≡ 0 → ⊥) → some n ≡ n ∷ []
+some-is n z = cond-false (eqb n 0) [] (n ∷ []) (ne-eqb n 0 z)
+
 newer : (s : State) (t : ℕ) → s .clock ≤ t → 0 < s .numbers .ticks → newest s ≤ newest (advanced s t)
 newer s t h pos = omega (arith, later s t pos h)
 
@@ -51,14 +54,22 @@ at-tick s t =
     }))
     (λ h. ⊎-elim
     (λ d. let b = at-due s t h d in ⊎-elim
-    (λ l. inr (record {
+    (λ l. ⊎-elim
+    (λ (z : newest u ≡ 0). inl (record {
+      none-asked = cond-false _ _ _ (le-ltb t (s .clock) h) ∙ (cond-true _ _ _ d ∙ (cond-true _ _ _ l ∙ ap some z));
+      turn-stays = ap (λ v. v .turn) (b .0) ∙ (cond-true _ _ _ l ∙ ap (afterwards (s .turn)) z);
+      later-on = λ pos. rw (b .0) (newer s t h pos);
+      tells-newest = inl (ap toldByTick (b .1) ∙ (told-shown s (alone u) ∙ (cond-true _ _ _ l ∙ ap (disclosed (s .turn)) z)));
+    }))
+    (λ (z : newest u ≡ 0 → ⊥). inr (record {
       n = newest u;
-      asked = cond-false _ _ _ (le-ltb t (s .clock) h) ∙ (cond-true _ _ _ d ∙ cond-true _ _ _ l);
+      asked = cond-false _ _ _ (le-ltb t (s .clock) h) ∙ (cond-true _ _ _ d ∙ (cond-true _ _ _ l ∙ some-is (newest u) z));
       told-so = ap toldByTick (b .1) ∙ (told-shown s (alone u) ∙ cond-true _ _ _ l);
       turned = ap (λ v. v .turn) (b .0) ∙ cond-true _ _ _ l;
       from = newer s t h;
       here = ap newest (b .0);
     }))
+    (cases-eq (newest u) 0))
     (λ l. inl (record {
       none-asked = cond-false _ _ _ (le-ltb t (s .clock) h) ∙ (cond-true _ _ _ d ∙ cond-false _ _ _ l);
       turn-stays = ap (λ v. v .turn) (b .0) ∙ cond-false _ _ _ l;
@@ -91,14 +102,22 @@ at-say s text =
       later-on = λ pos. rw (b .0) (omega arith);
       tells-newest = inl (ap toldBySaid (b .1));
     }))
-    (λ m. let b = at-sent s text h m in inr (record {
+    (λ m. let b = at-sent s text h m in ⊎-elim
+    (λ (z : newest s ≡ 0). inl (record {
+      none-asked = cond-false _ _ _ (le-ltb 200 (length text) h) ∙ (cond-false _ _ _ m ∙ ap some z);
+      turn-stays = ap (λ v. v .turn) (b .0) ∙ ap (afterwards (s .turn)) z;
+      later-on = λ pos. rw (b .0) (omega arith);
+      tells-newest = inl (ap toldBySaid (b .1) ∙ ap (disclosed (s .turn)) z);
+    }))
+    (λ (z : newest s ≡ 0 → ⊥). inr (record {
       n = newest s;
-      asked = rw (le-ltb 200 (length text) h, m);
+      asked = cond-false _ _ _ (le-ltb 200 (length text) h) ∙ (cond-false _ _ _ m ∙ some-is (newest s) z);
       told-so = ap toldBySaid (b .1);
       turned = ap (λ v. v .turn) (b .0);
       from = λ pos. omega arith;
       here = ap newest (b .0);
     }))
+    (cases-eq (newest s) 0))
     (cases-bool (mayNot s)))
     (cases-lt 200 (length text))
 

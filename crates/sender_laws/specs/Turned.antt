@@ -4,23 +4,27 @@ use mathlib.Core.Path.{_≡_}
 use mathlib.Core.Bool.{cond}
 use mathlib.Core.List.{List, [], _∷_, _++_, map, List·Memᴰ}
 use mathlib.Core.Logic.{_⊎_}
-use lib.Dec.{ltb, leb}
+use lib.Dec.{eqb, ltb, leb}
 use lib.ListN.{length, take}
 use Rattle.turns.specs.Turns.{disclosures}
 use Rattle.turns.specs.Laws.{Caught, OneNewest}
 use Rattle.sender.specs.State.{State, interval, newest, advanced, due, mayNot}
 use Rattle.sender_laws.specs.Run.{Event, tick, say, step, tells}
 
--- the newest that may be disclosed, where an event discloses in turn (0 where none may be)
+-- the newest that may be disclosed, if there is one
+abbrev pub some : (newest : ℕ) → List ℕ
+some n = cond (eqb n 0) [] (n ∷ [])
+
+-- the same, where an event discloses in turn
 abbrev pub asks : State → Event → List ℕ
-asks s (tick t) = cond (ltb t (s .clock)) [] (cond (due (advanced s t)) (cond (leb (interval (advanced s t)) (s .numbers .last)) (newest (advanced s t) ∷ []) []) [])
-asks s (say text) = cond (ltb 200 (length text)) [] (cond (mayNot s) [] (newest s ∷ []))
+asks s (tick t) = cond (ltb t (s .clock)) [] (cond (due (advanced s t)) (cond (leb (interval (advanced s t)) (s .numbers .last)) (some (newest (advanced s t))) []) [])
+asks s (say text) = cond (ltb 200 (length text)) [] (cond (mayNot s) [] (some (newest s)))
 
 abbrev pub allAsks : State → List Event → List ℕ
 allAsks s [] = []
 allAsks s (e ∷ es) = asks s e ++ allAsks (step s e) es
 
--- the intervals whose keys are disclosed there, 0 for none
+-- the intervals whose keys are disclosed there
 abbrev pub allAnswers : State → List Event → List ℕ
 allAnswers s [] = []
 allAnswers s (e ∷ es) = map (λ _. tells s e) (asks s e) ++ allAnswers (step s e) es

@@ -1,5 +1,6 @@
 // Senders walked to the end of their chains, beside a key chain kept whole.
-pub mod walks;
+#[cfg(test)]
+mod walks;
 
 #[cfg(test)]
 mod tests {
