@@ -1,3 +1,4 @@
 pub mod Among
 pub mod Heard
 pub mod Lines
+pub mod Air

@@ -1,3 +1,5 @@
 pub mod Saids
 pub mod Hearings
 pub mod Plays
+pub mod Sents
+pub mod Casts

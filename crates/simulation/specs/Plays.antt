@@ -47,17 +47,18 @@ Ends n (Ok v) = Unit {0}
 Ends n (Err (error.Faulty f)) = f .line ≡ n
 Ends n (Err error.NoMemory) = Unit {0}
 
--- the line of a fault, counted from 1: every line before it reads
-pub record FirstFault (lines : List (List ℕ)) (line : ℕ) : Type 0 where
+-- the line of a fault, counted from 1: every line before it reads, and where it does not read itself, this is why
+pub record FirstFault (lines : List (List ℕ)) (line : ℕ) (refusal : Refusal) : Type 0 where
   pub before : List (List ℕ)
   pub here : List ℕ
   pub behind : List (List ℕ)
   pub whole : lines ≡ before ++ here ∷ behind
   pub counted : line ≡ length before + 1
   pub read : All Reads before
+  pub why : Why here refusal
 
 abbrev pub Refuses : Error → (script : List ℕ) → Type 0
-Refuses (error.Faulty f) s = FirstFault (linesOf s) (f .line)
+Refuses (error.Faulty f) s = FirstFault (linesOf s) (f .line) (f .refusal)
 Refuses error.NoMemory s = Unit {0}
 
 -- of a script that is played every line reads

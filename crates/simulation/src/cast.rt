@@ -1,9 +1,14 @@
 // The sender, the receivers and the air of a play.
+ghost use mathlib.Core.List.{[], _∷_, _++_};
+ghost use mathlib.Core.Path.{_≡_};
+ghost use Rattle.std.specs.Vec.{made};
+ghost use Rattle.sender.specs.Of.{stateOf};
+ghost use Rattle.sender.specs.State.{tickBytes, tickAnswer, sayAnswer};
+ghost use Rattle.simulation.specs.Casts.{recordsOf, tickSends, saySends, Reached};
 use crate::event::Deed;
 use crate::event::Event;
-use crate::event::Saying;
 use crate::hearing::bring;
-use crate::sent::saying;
+use crate::sent::sayings;
 use crate::sent::sent;
 use keychain::key::Key;
 use orders::command::Whom;
@@ -30,7 +35,6 @@ pub struct Cast {
     pub receivers: Vec<Receiver>,
     // what was sent, the oldest first
     pub air: Vec<Vec<u8>>,
-    pub said: Vec<Saying>,
     pub events: Vec<Event>,
 }
 
@@ -55,13 +59,14 @@ impl Cast {
             sender,
             receivers,
             air: Vec::new(heap),
-            said: Vec::new(heap),
             events: Vec::new(heap),
         })
     }
 
     // Bytes of the sender go on the air.
-    fn send(&mut self, heap: Global, line: u64, bytes: &[u8]) -> Result<(), Stop> {
+    fn send(&mut self, heap: Global, line: u64, bytes: &[u8]) -> Result<(), Stop>
+        ensures { λ r. ⌜ made r (λ _. recordsOf (now (self .exit)) ≡ recordsOf (now (self .entry)) ++ now (bytes .entry) ∷ []) ⌝ }
+    {
         let sent = sent(heap, bytes)?;
         let record = Vec::from_slice(heap, bytes)?;
         self.air.push(record)?;
@@ -72,7 +77,9 @@ impl Cast {
     }
 
     // The real time: a key that the sender discloses by itself goes on the air.
-    pub fn time(&mut self, heap: Global, line: u64, tick: u64) -> Result<(), Stop> {
+    pub fn time(&mut self, heap: Global, line: u64, tick: u64) -> Result<(), Stop>
+        ensures { λ r. ⌜ made r (λ _. recordsOf (now (self .exit)) ≡ recordsOf (now (self .entry)) ++ tickSends (tickBytes (tickAnswer (stateOf (now (self .entry) .sender)) tick))) ⌝ }
+    {
         let Some(key) = self.sender.tick(tick)? else {
             return Ok(());
         };
@@ -80,7 +87,9 @@ impl Cast {
     }
 
     // The sender says a text, or refuses to.
-    pub fn say(&mut self, heap: Global, line: u64, text: &[u8]) -> Result<(), Stop> {
+    pub fn say(&mut self, heap: Global, line: u64, text: &[u8]) -> Result<(), Stop>
+        ensures { λ r. ⌜ made r (λ _. recordsOf (now (self .exit)) ≡ recordsOf (now (self .entry)) ++ saySends (sayAnswer (stateOf (now (self .entry) .sender)) (now (text .entry)))) ⌝ }
+    {
         let mut memory = [0u8; 256];
         let count = match self.sender.say(text, &mut memory) {
             Ok(count) => count,
@@ -90,13 +99,10 @@ impl Cast {
                 return Ok(());
             }
         };
-        let Some(message) = memory.get(0..count) else {
+        if count > 256 {
             return Err(Stop::Fault(Refusal::Malformed));
-        };
-        if let Some(saying) = saying(heap, message)? {
-            self.said.push(saying)?;
         }
-        self.send(heap, line, message)
+        self.send(heap, line, &memory[0..count])
     }
 
     pub fn clock(&mut self, receiver: u64, tick: u64) -> Result<(), Stop> {
@@ -122,14 +128,19 @@ impl Cast {
         &mut self,
         heap: Global,
         line: u64,
-        record: Option<u64>,
+        number: Option<u64>,
         to: Whom,
         bytes: &[u8],
-    ) -> Result<(), Stop> {
-        let said = self.said.as_slice();
+    ) -> Result<(), Stop>
+        ensures { λ r. ⌜ made r (λ _. Reached line number to (now (bytes .entry)) (now (self .entry)) (now (self .exit))) ⌝ }
+    {
+        let said = sayings(heap, self.air.as_slice())?;
         let receivers = self.receivers.as_mut_slice();
-        let hearings = bring(heap, said, receivers, to, bytes)?;
-        let deed = Deed::Brought { record, hearings };
+        let hearings = bring(heap, said.as_slice(), receivers, to, bytes)?;
+        let deed = Deed::Brought {
+            record: number,
+            hearings,
+        };
         self.events.push(Event { line, deed })?;
         Ok(())
     }
