@@ -1,14 +1,14 @@
 // What is printed of a play.
 use crate::show::reason;
 use crate::show::show_fault;
+use hearings::event::Deed;
+use hearings::event::Delivery;
+use hearings::event::Event;
+use hearings::event::Hearing;
+use hearings::event::Sent;
 use receiver::outcome::Outcome;
 use scenario::error::Error;
 use simulation::counts::Counts;
-use simulation::event::Deed;
-use simulation::event::Delivery;
-use simulation::event::Event;
-use simulation::event::Hearing;
-use simulation::event::Sent;
 use simulation::play::play;
 use std::alloc::AllocError;
 use std::alloc::Global;

@@ -1,4 +1,2 @@
-pub mod Among
-pub mod Heard
 pub mod Lines
-pub mod Air
+pub mod Sends

@@ -14,12 +14,12 @@ use Rattle.wire.specs.Formats.{messageEncoded}
 use Rattle.sender.specs.State.{Spoken, sent, refused}
 use Rattle.orders.specs.declared.command.Whom.{Whom}
 use Rattle.simulation.specs.declared.cast.Cast.{Cast}
-use Rattle.simulation.specs.declared.event.Deed.{Deed}
-use Rattle.simulation.specs.declared.event.Deed.the-variants.{Brought}
-use Rattle.simulation.specs.declared.event.Event.{Event}
-use Rattle.simulation.specs.declared.event.Hearing.{Hearing}
-use Rattle.simulation.specs.Hearings.{hearingsOf, Brings}
-use Rattle.simulation.specs.Sents.{saidOn}
+use Rattle.hearings.specs.declared.event.Deed.{Deed}
+use Rattle.hearings.specs.declared.event.Deed.the-variants.{Brought}
+use Rattle.hearings.specs.declared.event.Event.{Event}
+use Rattle.hearings.specs.declared.event.Hearing.{Hearing}
+use Rattle.hearings.specs.Hearings.{hearingsOf, Brings}
+use Rattle.hearings.specs.Sents.{saidOn}
 
 unfoldable pub bytesOf : List (Vec ℕ Global) → List (List ℕ)
 bytesOf rs = map vec-items rs

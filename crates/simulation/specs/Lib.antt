@@ -1,5 +1,2 @@
-pub mod Saids
-pub mod Hearings
 pub mod Plays
-pub mod Sents
 pub mod Casts

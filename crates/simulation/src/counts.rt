@@ -1,7 +1,7 @@
 // How much happened.
-use crate::event::Deed;
-use crate::event::Event;
-use crate::event::Hearing;
+use hearings::event::Deed;
+use hearings::event::Event;
+use hearings::event::Hearing;
 
 #[derive(Clone, Copy, Drop)]
 pub struct Counts {

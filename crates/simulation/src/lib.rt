@@ -1,10 +1,6 @@
 // Plays: a sender and receivers by their public calls, with clocks, deeds and bytes from a script.
 mod cast;
 pub mod counts;
-pub mod event;
-pub mod hearing;
 pub mod mode;
 pub mod play;
-pub mod said;
-mod sent;
 mod stage;

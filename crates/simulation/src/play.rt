@@ -1,7 +1,7 @@
 // Plays followed whole or not at all.
 ghost use Rattle.simulation.specs.Plays.{Followed, Steps, Ends, Plays};
-use crate::event::Event;
 use crate::stage::Stage;
+use hearings::event::Event;
 use orders::line::parse;
 use scenario::error::Error;
 use scenario::error::Fault;

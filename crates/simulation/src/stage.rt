@@ -1,6 +1,6 @@
 // How far a play has come.
 use crate::cast::Cast;
-use crate::event::Event;
+use hearings::event::Event;
 use keychain::key::Key;
 use orders::command::Command;
 use script::stop::Stop;

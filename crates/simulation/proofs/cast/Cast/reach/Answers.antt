@@ -1,9 +1,9 @@
 use mathlib.Core.Path.{refl, _∙_, ap}
 use Rattle.std.proofs.Told.{chosen}
 use Rattle.std.specs.Results.{isOk}
-use Rattle.simulation.specs.Saids.{sayingsOf}
-use Rattle.simulation.specs.Sents.{saidOn}
-use Rattle.simulation.proofs.Air.{brings-by}
+use Rattle.hearings.specs.Saids.{sayingsOf}
+use Rattle.hearings.specs.Sents.{saidOn}
+use Rattle.simulation.proofs.Sends.{brings-by}
 use Rattle.simulation.proofs.cast.Cast.reach.Needs as need
 
 pub returns : need.returns

@@ -3,7 +3,7 @@ use lib.ListN.{take}
 use Rattle.sender.specs.Of.{stateOf}
 use Rattle.sender.specs.State.{sayAnswer}
 use Rattle.simulation.specs.Casts.{recordsOf, saySends}
-use Rattle.simulation.proofs.Air.{said-part, made-by}
+use Rattle.simulation.proofs.Sends.{said-part, made-by}
 use Rattle.simulation.proofs.cast.Cast.say.Needs as need
 
 pub returns : need.returns

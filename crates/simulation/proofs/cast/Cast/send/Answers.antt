@@ -1,7 +1,7 @@
 use mathlib.Core.Path.{ap}
 use Rattle.std.proofs.Told.{chosen}
 use Rattle.std.specs.Results.{isOk}
-use Rattle.simulation.proofs.Air.{sent-more}
+use Rattle.simulation.proofs.Sends.{sent-more}
 use Rattle.simulation.proofs.cast.Cast.send.Needs as need
 
 pub returns : need.returns
