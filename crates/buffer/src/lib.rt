@@ -1,4 +1,6 @@
 // The buffer of a receiver: messages that wait for their key, in fixed memory.
+#![tactic(auto)]
+
 pub mod message;
 pub mod room;
 

@@ -1,4 +1,6 @@
 // What the sender said, and what receivers make of bytes that are brought to them.
+#![tactic(auto)]
+
 pub mod event;
 pub mod hearing;
 pub mod said;

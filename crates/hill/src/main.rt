@@ -1,4 +1,6 @@
 // Plays scripts: messages by time alone at receivers' clocks, or a sender and receivers by their calls.
+#![tactic(auto)]
+
 mod report;
 mod show;
 

@@ -1,4 +1,6 @@
 // The key chain in bytes: one step down, MAC keys and tags, and the walk down to a key that is had.
+#![tactic(auto)]
+
 ghost use Rattle.std.specs.Prelude.{◌≡◌, ℕ, ◌<◌, ◌≤◌, List, [], ◌∷◌, ◌≢◌, slice_index, slice_index_or};
 ghost use Rattle.keychain.specs.Chain.{stepped, key_down, tagged, absent_key, zero_key, walk_outcome_of, Collected, ChainTerms};
 ghost use Rattle.model.specs.Receiver.{judge_walk, walk_steps};

@@ -1,4 +1,6 @@
 // Reads settings and then frames, each from the receiver's own clock or from the air, and writes what the receiver delivers.
+#![tactic(auto)]
+
 ghost use Rattle.std.specs.Prelude.{◌≤◌, length, IfOk};
 
 use anyhow::anyhow;

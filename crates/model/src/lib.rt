@@ -1,4 +1,6 @@
 // The promise of the whole, and what it rests on, proved over every run.
+#![tactic(auto)]
+
 ghost use Rattle.model.specs.Cases.{WorkedCases};
 ghost use Rattle.model.specs.Promise.{Meets};
 ghost use Rattle.model.specs.Receiver.{ours};

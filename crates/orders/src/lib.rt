@@ -1,4 +1,6 @@
 // Lines of a play as commands.
+#![tactic(auto)]
+
 pub mod command;
 mod fields;
 pub mod hex;

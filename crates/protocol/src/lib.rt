@@ -1,4 +1,6 @@
 // The promise over both ends.
+#![tactic(auto)]
+
 ghost use Rattle.protocol.specs.Whole.{PromiseOfWhole};
 
 // Over every sequence of public calls of one sender and any number of receivers.

@@ -1,4 +1,6 @@
 // A receiver for C, over memory that the caller owns. A slice is passed as a pointer and a length.
+#![tactic(auto)]
+
 ghost use Rattle.std.specs.Prelude.{◌≡◌, ℕ, cond, List};
 ghost use Rattle.model.specs.Receiver.{outcome_number};
 ghost use Rattle.buffer.specs.Buffers.{saids_of};

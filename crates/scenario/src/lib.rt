@@ -1,4 +1,6 @@
 // Scripts of what receivers with bad clocks hear, played whole or not at all.
+#![tactic(auto)]
+
 pub mod arrival;
 mod clocks;
 pub mod error;

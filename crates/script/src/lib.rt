@@ -1,4 +1,6 @@
 // Scripts as text: lines, words and numbers, and the command of a line.
+#![tactic(auto)]
+
 pub mod command;
 pub mod keyword;
 pub mod stop;

@@ -1,4 +1,6 @@
 // What is promised of every run of a sender, and its calls in the model's worlds.
+#![tactic(auto)]
+
 ghost use Rattle.sender_laws.specs.Ends.{BothEnds, BroughtBack};
 ghost use Rattle.sender_laws.specs.Run.{NoTwice, NoneEarly, ByItself, WorkedOnce};
 ghost use Rattle.sender_laws.specs.Turned.{InTurn, OutOfTurn, OneOfTwo, AllWithin, HeardAgain};

@@ -1,4 +1,6 @@
 // Senders walked to the end of their chains, beside a key chain kept whole.
+#![tactic(auto)]
+
 #[cfg(test)]
 mod walks;
 

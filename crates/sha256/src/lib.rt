@@ -1,4 +1,6 @@
 // SHA-256 and HMAC-SHA-256 (RFC 6234, RFC 2104).
+#![tactic(auto)]
+
 ghost use Rattle.std.specs.Prelude.{◌≡◌, ℕ, ◌+◌, ◌-◌, ◌*◌, ◌/◌, ◌%◌, ◌^◌, ◌<◌, ◌≤◌, List, ◌++◌, length, take, slice_index};
 ghost use Rattle.sha256.specs.Vectors.{Published};
 ghost use Rattle.sha256.specs.Laws.{Laws};

@@ -1,4 +1,6 @@
 // SHA-256 and HMAC-SHA-256 for C to call: a slice is passed as a pointer and a length.
+#![tactic(auto)]
+
 ghost use Rattle.std.specs.Prelude.{◌≡◌};
 ghost use Rattle.sha256.specs.Sha256.{digest};
 ghost use Rattle.sha256.specs.Hmac.{hmac};

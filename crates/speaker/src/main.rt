@@ -1,4 +1,6 @@
 // Plays a sender by a script, and writes its settings and what goes on the air.
+#![tactic(auto)]
+
 mod script;
 
 use anyhow::anyhow;

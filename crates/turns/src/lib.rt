@@ -1,4 +1,6 @@
 // The turns of disclosure: the newest key that may be disclosed, then that of a multiple of 1,024, then the newest, then the next multiple.
+#![tactic(auto)]
+
 ghost use Rattle.std.specs.Prelude.{◌≡◌};
 ghost use Rattle.turns.specs.Laws.{TwoInARow, AllInARow, CatchesUp};
 ghost use Rattle.turns.specs.Turns.{disclosed, afterwards, first_turn};

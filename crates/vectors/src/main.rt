@@ -1,5 +1,7 @@
 // Runs published vectors of SHA-256 and HMAC-SHA-256, and compares each result with the published one.
 // The arguments are a file of digests and a file of HMACs.
+#![tactic(auto)]
+
 mod fault;
 mod hex;
 mod vector;

@@ -1,4 +1,6 @@
 // What the sender, receivers and their own clocks hand to each other, as bytes.
+#![tactic(auto)]
+
 pub mod air;
 mod bytes;
 pub mod clock;

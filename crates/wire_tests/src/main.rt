@@ -1,5 +1,7 @@
 // Every format whole, cut at every byte, one byte too long, and with each byte changed to each other value.
 // What is read is written again, and must give the bytes that it was read from.
+#![tactic(auto)]
+
 mod records;
 
 use records::{Case, Format};

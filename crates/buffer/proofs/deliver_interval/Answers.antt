@@ -9,7 +9,7 @@ use Rattle.buffer.specs.Buffers.{messages_in, messages_of, as_message, as_said, 
 use Rattle.buffer.proofs.Lists.{messages_none, of_none, count_more, saids_push}
 use Rattle.buffer.proofs.Order.{right_none, of_first, said_yes, said_no, said_not}
 use Rattle.buffer.proofs.deliver_interval.Goals as goal
-use Rattle.buffer.proofs.deliver_interval.Goals.{then-buffer-b+then-is-right, then-buffer-b+else-is-right, else-buffer-b}
+use Rattle.buffer.proofs.deliver_interval.Goals.{then-buffer-b+then-is_right, then-buffer-b+else-is_right, else-buffer-b}
 
 pub loop-b-init : goal.loop-b-init
 loop-b-init c = (omega arith, rw (messages_none, of_none), λ k o. rw (messages_none, right_none, append-nil))
@@ -25,7 +25,7 @@ loop-b-preserved c =
     let n = count_more i ks b d h in
     let up = of_first i (b + 1) c.args.buffer.now.len ks (omega arith) in
     elim c.if-buffer-b.branch [
-      | then-buffer-b+then-is-right w ↦
+      | then-buffer-b+then-is_right w ↦
           let t = eq-eqb x.numbers.interval i w.if-buffer-b.true in
           let e = w.index-buffer-b-then-buffer-b.result in
           let is = ap (λ (k : Buffered). k.numbers.interval) (get_or_default ks b e d h) ∙ w.if-buffer-b.true in
@@ -37,16 +37,16 @@ loop-b-preserved c =
           let messages = w.push.ensures.messages ∙ cond-true _ _ _ l in (
             rw w.out-is (omega (arith, count, n1, c.loop-b.invariant.0)),
             rw w.tags-is (omega (arith, n1, c.loop-b.invariant.1)),
-            λ k o. rw w.out-is (said_yes hmac (get_or c.args.keys.now b absent_key).bytes k i ks b e (saids_of c.args.out.now) (messages_of c.loop-b.out) _ w.is-right.result h te (o b e (omega arith) is) w.is-right.ensures w.if-is-right.true messages (c.loop-b.invariant.2 k o)),
+            λ k o. rw w.out-is (said_yes hmac (get_or c.args.keys.now b absent_key).bytes k i ks b e (saids_of c.args.out.now) (messages_of c.loop-b.out) _ w.is_right.result h te (o b e (omega arith) is) w.is_right.ensures w.if-is_right.true messages (c.loop-b.invariant.2 k o)),
           )
-      | then-buffer-b+else-is-right w ↦
+      | then-buffer-b+else-is_right w ↦
           let t = eq-eqb x.numbers.interval i w.if-buffer-b.true in
           let n1 : of_interval i (messages_in (take (b + 1) ks)) ≡ of_interval i (messages_in (take b ks)) + 1 = rw (n, t) in
           let e = w.index-buffer-b-then-buffer-b.result in
           let is = ap (λ (k : Buffered). k.numbers.interval) (get_or_default ks b e d h) ∙ w.if-buffer-b.true in (
             rw w.out-is (omega (arith, n, c.loop-b.invariant.0)),
             rw w.tags-is (omega (arith, n1, c.loop-b.invariant.1)),
-            λ k o. rw w.out-is (said_not hmac (get_or c.args.keys.now b absent_key).bytes k i ks b e (saids_of c.args.out.now) (messages_of c.loop-b.out) w.is-right.result h (o b e (omega arith) is) w.is-right.ensures w.if-is-right.false (c.loop-b.invariant.2 k o)),
+            λ k o. rw w.out-is (said_not hmac (get_or c.args.keys.now b absent_key).bytes k i ks b e (saids_of c.args.out.now) (messages_of c.loop-b.out) w.is_right.result h (o b e (omega arith) is) w.is_right.ensures w.if-is_right.false (c.loop-b.invariant.2 k o)),
           )
       | else-buffer-b w ↦
           let f = ne_eqb x.numbers.interval i w.if-buffer-b.false in

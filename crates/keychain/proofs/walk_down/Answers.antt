@@ -6,7 +6,7 @@ use Rattle.keychain.proofs.Chains.{down_none, down_more, collected_none, collect
 use Rattle.keychain.proofs.walk_down.Goals as goal
 
 pub walk-init : goal.walk-init
-walk-init c = (omega arith, sym (down_none c.args.key.bytes), collected_none 0 _ _ _ refl c.no-keys-keys.ensures)
+walk-init c = (omega arith, sym (down_none c.args.key.bytes), collected_none 0 _ _ _ refl c.no_keys-keys.ensures)
 
 pub walk-preserved : goal.walk-preserved
 walk-preserved c =
@@ -17,7 +17,7 @@ walk-preserved c =
       c.previous-k.ensures ∙ ap stepped c.walk.invariant.1 ∙ sym (down_more n k),
       λ i h.
           elim (cases_eq (get_or wanted i 0) n) [
-            | inl z ↦ collected_here n (get_or wanted i 0) k _ z (ap (λ (x : Key). x.bytes) (c.put-key.ensures.put i h z) ∙ c.walk.invariant.1)
-            | inr z ↦ collected_other n (get_or wanted i 0) k _ z (ap (λ (x : Key). x.bytes) (c.put-key.ensures.left i h z) ∙ c.walk.invariant.2 i h)
+            | inl z ↦ collected_here n (get_or wanted i 0) k _ z (ap (λ (x : Key). x.bytes) (c.put_key.ensures.put i h z) ∙ c.walk.invariant.1)
+            | inr z ↦ collected_other n (get_or wanted i 0) k _ z (ap (λ (x : Key). x.bytes) (c.put_key.ensures.left i h z) ∙ c.walk.invariant.2 i h)
           ],
     )

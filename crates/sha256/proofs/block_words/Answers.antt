@@ -11,7 +11,7 @@ loop-i-init c = (refl, refl)
 pub loop-i-preserved : goal.loop-i-preserved
 loop-i-preserved c =
     let lt : c.loop-i.i < length c.loop-i.w = omega arith in
-    let e = take_more_set c.loop-i.w c.loop-i.i c.from-be-bytes.result lt in
+    let e = take_more_set c.loop-i.w c.loop-i.i c.from_be_bytes.result lt in
     let m = words_more c.loop-i.i c.args.block.now in
     (simp length-set c.loop-i.invariant.0, cc)
 

@@ -15,4 +15,4 @@ loop-i-preserved c =
 pub returns : goal.returns
 returns c =
     let e : c.loop-i.i ≡ length c.args.text.now / 64 = omega arith in
-    c.last-blocks.ensures ∙ ap state_bytes (absorb-last c.loop-i.i _ c.args.text.now _ _ c.loop-i.t _ (padding-low (c.args.before + length c.args.text.now)) e refl c.loop-i.invariant)
+    c.last_blocks.ensures ∙ ap state_bytes (absorb-last c.loop-i.i _ c.args.text.now _ _ c.loop-i.t _ (padding-low (c.args.before + length c.args.text.now)) e refl c.loop-i.invariant)

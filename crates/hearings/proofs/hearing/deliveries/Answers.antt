@@ -13,5 +13,5 @@ pub loop-i-preserved : goal.loop-i-preserved
 loop-i-preserved c =
     let out = c.args.out.now in
     let there : c.loop-i.i < length out.messages = omega (arith, out.few, out.sized, c.loop-i-test.true) in
-    let pushed = chosen _ _ _ _ c.push.ensures.items (ap is_ok c.in-ok-push.was) in
-    ap deliveries_of pushed ∙ delivered_more _ out.messages c.loop-i.i c.index-out-i.result _ _ there c.in-ok-saying.ensures c.was-said-said.ensures c.loop-i.invariant
+    let pushed = chosen _ _ _ _ c.push.ensures.items (ap is_ok c.in_ok-push.was) in
+    ap deliveries_of pushed ∙ delivered_more _ out.messages c.loop-i.i c.index-out-i.result _ _ there c.in_ok-saying.ensures c.was_said-said.ensures c.loop-i.invariant

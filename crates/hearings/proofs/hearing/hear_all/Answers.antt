@@ -16,9 +16,9 @@ loop-r-preserved c =
     let there : i < length rs = omega (arith, c.loop-r-test.true) in
     let here : i < length c.loop-r.receivers = omega (arith, c.loop-r.auto.receivers, there) in
     let was : old ≡ get_or rs i old = c.loop-r.invariant.2 i c.r-item.result (omega arith) ∙ get_or_default rs i c.r-item.result old there in
-    let pushed = chosen _ _ _ _ c.push.ensures.items (ap is_ok c.in-ok-push.was) in (
+    let pushed = chosen _ _ _ _ c.push.ensures.items (ap is_ok c.in_ok-push.was) in (
       omega (arith, c.loop-r.invariant.0),
-      ap hearings_of pushed ∙ heard_more _ c.args.bytes.now rs i c.loop-r.receiver old _ _ there c.loop-r.invariant.0 was c.in-ok-hearing.ensures.heard c.loop-r.invariant.1,
+      ap hearings_of pushed ∙ heard_more _ c.args.bytes.now rs i c.loop-r.receiver old _ _ there c.loop-r.invariant.0 was c.in_ok-hearing.ensures.heard c.loop-r.invariant.1,
       left_more rs c.loop-r.receivers i _ c.loop-r.invariant.2,
       states_more c.args.bytes.now rs c.loop-r.receivers i _ old here there was c.hear.ensures.state c.loop-r.invariant.3,
     )

@@ -12,13 +12,13 @@ returns c =
     let i = c.args.receiver - 1 in
     let old = c.index-receivers-receiver.result in
     let there : i < length rs = omega (arith, c.if-receiver-lt1.false, c.if-receiver-receivers.false) in
-    let pushed = chosen _ _ _ _ c.push.ensures.items (ap is_ok c.in-ok-push.was) in
+    let pushed = chosen _ _ _ _ c.push.ensures.items (ap is_ok c.in_ok-push.was) in
     record {
       heard = (
         omega (arith, c.if-receiver-lt1.false),
         (
           omega (arith, c.if-receiver-receivers.false),
-          λ d. ap hearings_of pushed ∙ heard_one _ _ _ c.new-all.ensures.items (c.in-ok-hearing.ensures.heard ∙ ap (heard_by (sayings_of c.args.said.now) c.args.receiver c.args.bytes.now) (get_or_default rs i old d there)),
+          λ d. ap hearings_of pushed ∙ heard_one _ _ _ c.new-all.ensures.items (c.in_ok-hearing.ensures.heard ∙ ap (heard_by (sayings_of c.args.said.now) c.args.receiver c.args.bytes.now) (get_or_default rs i old d there)),
         ),
       );
     }

@@ -6,7 +6,7 @@ pub returns-then-buffer-lt-ROOM : goal.returns-then-buffer-lt-ROOM
 returns-then-buffer-lt-ROOM c =
     let n = count_is c.args.buffer.now in
     let t = lt-ltb c.args.buffer.now.len 64 c.if-buffer-lt-ROOM.true in
-    rw (n, t, c.of-interval.ensures)
+    rw (n, t, c.of_interval.ensures)
 
 pub returns-else-buffer-lt-ROOM : goal.returns-else-buffer-lt-ROOM
 returns-else-buffer-lt-ROOM c =

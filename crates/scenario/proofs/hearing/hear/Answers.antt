@@ -7,7 +7,7 @@ use Rattle.scenario.proofs.hearing.hear.Goals as goal
 
 pub loop-clock-preserved : goal.loop-clock-preserved
 loop-clock-preserved c =
-    let pushed = chosen _ _ _ _ c.push.ensures.items (ap is_ok c.in-ok-push.was) in
+    let pushed = chosen _ _ _ _ c.push.ensures.items (ap is_ok c.in_ok-push.was) in
     let p = parameters_of c.args.parameters in
     let l = c.loop-clock in
     (omega arith, ap (λ x. x ++ arrivals p c.args.line c.args.interval (l.receiver + 1 + 1) (drop (l.clock-index + 1) c.args.clocks.now)) pushed ∙ sym (heard_more _ p _ _ _ _ _ _ c.loop-clock-test.true c.judge-judgement.ensures) ∙ l.invariant.1)

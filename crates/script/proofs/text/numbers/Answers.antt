@@ -4,13 +4,13 @@ use Rattle.script.specs.Text.{words, numbers}
 use Rattle.script.proofs.Numbers.{ahead, ahead_more, ahead_bad, ahead_all}
 use Rattle.script.proofs.text.numbers.Goals as goal
 
-pub returns-in-default-number : goal.returns-in-default-number
-returns-in-default-number c = sym c.loop-word.invariant ∙ ahead_bad _ _ _ _ c.in-Some.ensures.0 c.in-default-number.ensures
+pub returns-in_default-number : goal.returns-in_default-number
+returns-in_default-number c = sym c.loop-word.invariant ∙ ahead_bad _ _ _ _ c.in-Some.ensures.0 c.in_default-number.ensures
 
 pub loop-word-preserved : goal.loop-word-preserved
 loop-word-preserved c =
-    let pushed = chosen _ _ _ _ c.push.ensures.items (ap is_ok c.in-ok-push.was) in
+    let pushed = chosen _ _ _ _ c.push.ensures.items (ap is_ok c.in_ok-push.was) in
     ap (λ l. ahead l (numbers (words c.in-Some.after.now))) pushed ∙ sym (ahead_more _ _ _ _ _ c.in-Some.ensures.0 c.in-Some-number.ensures) ∙ c.loop-word.invariant
 
 pub returns : goal.returns
-returns c = sym c.loop-word.invariant ∙ ahead_all _ _ c.in-default.ensures
+returns c = sym c.loop-word.invariant ∙ ahead_all _ _ c.in_default.ensures

@@ -7,14 +7,14 @@ use Rattle.segments.proofs.walking.fill_part.Goals as goal
 pub returns : goal.returns
 returns c = record {
   long =
-      let n = c.top-of.result - 128 * c.args.part - 0 in
+      let n = c.top_of.result - 128 * c.args.part - 0 in
       let v = get_or c.args.ends.now c.args.part absent_key in
       let e : length c.descend.new.keys ≡ n = search rules in
       lent_long n 128 (set c.args.keys.now 0 v) c.descend.new.keys (omega arith) (search rules) e;
   filled = λ drawn is j h.
       let ks = c.descend.new.keys in
       let top = top_of c.args.last c.args.part in
-      let n = c.top-of.result - 128 * c.args.part - 0 in
+      let n = c.top_of.result - 128 * c.args.part - 0 in
       let l : j < length ks = search rules in
       let some : 0 < length c.args.keys.now = search rules in
       let v = get_or c.args.ends.now c.args.part absent_key in

@@ -18,8 +18,8 @@ loop-k-preserved c =
     let is = c.loop-k.invariant.1 ∙ ap (key_at last drawn) t in
     let down = key_from last (128 * part) (top_of last part) (top_of last part - 128 * part) drawn c.loop-k.key.bytes (omega arith) (omega arith) is in
     let u : 128 * part ≡ min (128 * ((last - 1) / 128 + 1 - (k + 1))) last = omega arith in
-    let m : c.top-of.result - 128 * part ≡ top_of last part - 128 * part = omega arith in (
+    let m : c.top_of.result - 128 * part ≡ top_of last part - 128 * part = omega arith in (
       rw length-set c.loop-k.invariant.0,
-      c.go-down.ensures ∙ (ap (λ m. key_down m c.loop-k.key.bytes) m ∙ (down ∙ ap (key_at last drawn) u)),
+      c.go_down.ensures ∙ (ap (λ m. key_down m c.loop-k.key.bytes) m ∙ (down ∙ ap (key_at last drawn) u)),
       λ b le lt. ends_more last part ((last - 1) / 128 + 1 - k) drawn c.loop-k.key c.loop-k.ends (omega arith) (omega arith) is c.loop-k.invariant.2 b (omega arith) lt,
     )

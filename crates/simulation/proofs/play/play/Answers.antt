@@ -6,19 +6,19 @@ use Rattle.simulation.proofs.play.play.Goals as goal
 pub loop-text-init : goal.loop-text-init
 loop-text-init c = (done_none _, omega arith)
 
-pub returns-in-err-stage : goal.returns-in-err-stage
-returns-in-err-stage c =
+pub returns-in_err-stage : goal.returns-in_err-stage
+returns-in_err-stage c =
     let p = err_from_is_err_and c.from-residual.result c.from-residual.ensures.1 in
-    rw (p.1, p.2) (stops _ _ _ _ c.loop-text.line _ c.loop-text.invariant.0 c.in-Some.ensures.0 c.in-err-stage.ensures)
+    rw (p.1, p.2) (stops _ _ _ _ c.loop-text.line _ c.loop-text.invariant.0 c.in-Some.ensures.0 c.in_err-stage.ensures)
 
 pub loop-text-preserved : goal.loop-text-preserved
 loop-text-preserved c =
-    (done_more _ _ _ _ _ c.loop-text.invariant.0 c.in-Some.ensures.0 c.in-ok-stage.ensures, omega (arith, c.loop-text.invariant.1, c.in-Some.ensures.1))
+    (done_more _ _ _ _ _ c.loop-text.invariant.0 c.in-Some.ensures.0 c.in_ok-stage.ensures, omega (arith, c.loop-text.invariant.1, c.in-Some.ensures.1))
 
-pub returns-in-err-stage-2 : goal.returns-in-err-stage-2
-returns-in-err-stage-2 c =
-    let p = err_from_is_err_and c.from-residual-in-err-stage-2.result c.from-residual-in-err-stage-2.ensures.1 in
-    rw (p.1, p.2) (stops _ _ _ _ c.loop-text.line _ c.loop-text.invariant.0 c.in-default.ensures c.in-err-stage-2.ensures)
+pub returns-in_err-stage-2 : goal.returns-in_err-stage-2
+returns-in_err-stage-2 c =
+    let p = err_from_is_err_and c.from-residual-in_err-stage-2.result c.from-residual-in_err-stage-2.ensures.1 in
+    rw (p.1, p.2) (stops _ _ _ _ c.loop-text.line _ c.loop-text.invariant.0 c.in_default.ensures c.in_err-stage-2.ensures)
 
 pub returns : goal.returns
-returns c = ends _ _ c.loop-text.line c.conclude.result c.loop-text.invariant.0 c.in-default.ensures c.in-ok-stage-2.ensures c.conclude.ensures
+returns c = ends _ _ c.loop-text.line c.conclude.result c.loop-text.invariant.0 c.in_default.ensures c.in_ok-stage-2.ensures c.conclude.ensures

@@ -9,8 +9,8 @@ loop-i-init c = cc
 
 pub loop-i-preserved : goal.loop-i-preserved
 loop-i-preserved c =
-    let e = c.in-ok-push.ensures.items in
-    let s = spelled_more c.loop-i.i c.in-Some.high c.in-Some-hex-value.low c.args.text.now (vec_items c.loop-i.bytes) c.loop-i.invariant (sym c.in-Some.is ∙ c.hex-value.ensures) (sym c.in-Some-hex-value.is ∙ c.hex-value-in-loop-i.ensures) in
+    let e = c.in_ok-push.ensures.items in
+    let s = spelled_more c.loop-i.i c.in-Some.high c.in-Some-hex_value.low c.args.text.now (vec_items c.loop-i.bytes) c.loop-i.invariant (sym c.in-Some.is ∙ c.hex_value.ensures) (sym c.in-Some-hex_value.is ∙ c.hex_value-in-loop-i.ensures) in
     cc
 
 pub returns : goal.returns

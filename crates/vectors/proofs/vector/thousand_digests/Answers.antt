@@ -8,7 +8,7 @@ loop-i-init c = refl
 
 pub loop-i-preserved : goal.loop-i-preserved
 loop-i-preserved c =
-    let e = c.in-ok-joined.ensures in
+    let e = c.in_ok-joined.ensures in
     let d : c.sha256-next.result ≡ digest ((c.loop-i.a ++ c.loop-i.b) ++ c.loop-i.c) = cc in
     chained_more 1000 c.loop-i.i c.loop-i.a c.loop-i.b c.loop-i.c c.sha256-next.result _ c.loop-i-test.true d c.loop-i.invariant
 

@@ -8,6 +8,6 @@ pub returns-in-Ok : goal.returns-in-Ok
 returns-in-Ok c =
     let h = c.in-Ok.ensures in (ap air_event h.0 ∙ message_event_lem _ h.1.0, record { under = h.1.1; fits = h.1.0 })
 
-pub returns-in-Ok-read-part : goal.returns-in-Ok-read-part
-returns-in-Ok-read-part c =
-    let h = c.in-Ok-read-part.ensures in (ap air_event (key_whole c.args.b.now _ (omega (arith, ltb-false)) (omega (arith, eqb-true)) h.0) ∙ key_event_lem _ h.1, h.1)
+pub returns-in-Ok-read_part : goal.returns-in-Ok-read_part
+returns-in-Ok-read_part c =
+    let h = c.in-Ok-read_part.ensures in (ap air_event (key_whole c.args.b.now _ (omega (arith, ltb-false)) (omega (arith, eqb-true)) h.0) ∙ key_event_lem _ h.1, h.1)

@@ -6,11 +6,11 @@ pub returns : goal.returns
 returns c =
     let old : List ℕ = replicate 35 0 in
     let first : List ℕ = 2 ∷ [] in
-    let t : List ℕ = c.two-bytes.result in
+    let t : List ℕ = c.two_bytes.result in
     let k : List ℕ = c.args.k.key.now in
-    let l : length t ≡ 2 = ap length c.two-bytes.ensures in
+    let l : length t ≡ 2 = ap length c.two_bytes.ensures in
     let m : length k ≡ 32 = omega arith in
     let x = c.put.ensures [] old refl refl in
     let y = c.put-2.ensures first old refl x in
     let z = c.put-3.ensures (first ++ t) old (omega (arith, length-append first t, l)) y in
-    z ∙ (over_all ((first ++ t) ++ k) old (omega (arith, length-append (first ++ t) k, length-append first t, l, m)) ∙ ap (λ (u : List ℕ). (first ++ u) ++ k) c.two-bytes.ensures)
+    z ∙ (over_all ((first ++ t) ++ k) old (omega (arith, length-append (first ++ t) k, length-append first t, l, m)) ∙ ap (λ (u : List ℕ). (first ++ u) ++ k) c.two_bytes.ensures)

@@ -23,16 +23,16 @@ loop-i-preserved c =
     let i = c.loop-i.i in
     let ws = messages_of c.args.self.now in
     let u = upto_more i ws in (
-      omega (arith, c.deliver-interval-tags.ensures.count, u, c.loop-i.invariant.0),
-      omega (arith, c.deliver-interval-tags.ensures.tags, u, c.loop-i.invariant.1),
+      omega (arith, c.deliver_interval-tags.ensures.count, u, c.loop-i.invariant.0),
+      omega (arith, c.deliver_interval-tags.ensures.tags, u, c.loop-i.invariant.1),
       λ k o.
           let m = delivery_more hmac k c.args.from i c.args.upto ws (omega arith) (omega arith) in
-          let e = c.deliver-interval-tags.ensures.messages (walked hmac (c.args.upto - (i + 1)) k) (λ p d h z. o p d h (omega (arith, z)) (omega (arith, z)) ∙ ap (λ (n : ℕ). walked hmac (c.args.upto - n) k) z) in
+          let e = c.deliver_interval-tags.ensures.messages (walked hmac (c.args.upto - (i + 1)) k) (λ p d h z. o p d h (omega (arith, z)) (omega (arith, z)) ∙ ap (λ (n : ℕ). walked hmac (c.args.upto - n) k) z) in
           e ∙ ap (λ l. l ++ right_of hmac (walked hmac (c.args.upto - (i + 1)) k) (i + 1) ws) (c.loop-i.invariant.2 k o) ∙ sym m,
     )
 
-pub deliver-interval-tags-requires : goal.deliver-interval-tags-requires
-deliver-interval-tags-requires c =
+pub deliver_interval-tags-requires : goal.deliver_interval-tags-requires
+deliver_interval-tags-requires c =
     let b = c.args.self.now in
     let ws = messages_of b in
     let l = messages_length (take b.len b.messages) in
@@ -55,5 +55,5 @@ overflow-add-tags c =
     let b = c.args.self.now in
     let ws = messages_of b in
     let l = count_is b in
-    let m : c.loop-i.tags + c.deliver-interval-tags.result ≤ 64 = omega (arith, upto_more c.loop-i.i ws, upto_few (c.loop-i.i + 1) ws, c.loop-i.invariant.1, c.deliver-interval-tags.ensures.tags, l, b.few) in
+    let m : c.loop-i.tags + c.deliver_interval-tags.result ≤ 64 = omega (arith, upto_more c.loop-i.i ws, upto_few (c.loop-i.i + 1) ws, c.loop-i.invariant.1, c.deliver_interval-tags.ensures.tags, l, b.few) in
     omega (arith, m)

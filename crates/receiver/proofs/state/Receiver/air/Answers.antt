@@ -5,8 +5,8 @@ use Rattle.receiver.proofs.state.Receiver.air.Goals as goal
 
 pub returns : goal.returns
 returns c =
-    let e = c.hear-air-answer.ensures in
-    let last = c.hear-air-answer.new in
+    let e = c.hear_air-answer.ensures in
+    let last = c.hear_air-answer.new in
     record {
       parameters = e.parameters;
       state = e.state;

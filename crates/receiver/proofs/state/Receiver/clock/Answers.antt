@@ -6,12 +6,12 @@ use Rattle.receiver.proofs.state.Receiver.clock.Goals as goal
 
 pub returns : goal.returns
 returns c =
-    let e = c.hear-clock-outcome.ensures in
+    let e = c.hear_clock-outcome.ensures in
     let s = c.args.self in
     let b = c.args.bytes.now in
     record {
       parameters = e.parameters;
       state = e.state;
       outcome = e.outcome;
-      stands = λ p n w. call_stands p n (own_clock b) s c.hear-clock-outcome.new.r [] w e.parameters e.state (clock_quiet (params_of s) b (state_of s));
+      stands = λ p n w. call_stands p n (own_clock b) s c.hear_clock-outcome.new.r [] w e.parameters e.state (clock_quiet (params_of s) b (state_of s));
     }

@@ -17,8 +17,8 @@ invariant-of-self c =
             (
               old.ends_are,
               (
-                c.fill-part-made.ensures.filled _ (old.ends_are c.part-of-part.result (omega arith)),
-                (c.fill-tail-moved.ensures.filled _ old.ends_are old.keys_are, tt),
+                c.fill_part-made.ensures.filled _ (old.ends_are c.part_of-part.result (omega arith)),
+                (c.fill_tail-moved.ensures.filled _ old.ends_are old.keys_are, tt),
               ),
             ),
           ),
@@ -39,10 +39,10 @@ returns-then-part-self c =
 pub returns : goal.returns
 returns c =
     let old = c.args.self.now in
-    let ne : c.part-of-part.result ≡ old.part → ⊥ = c.if-part-self.false in
-    let w = length_work (last_of old) old.parameters.delay old.part c.part-of-part.result ne in
+    let ne : c.part_of-part.result ≡ old.part → ⊥ = c.if-part-self.false in
+    let w = length_work (last_of old) old.parameters.delay old.part c.part_of-part.result ne in
     record {
       same = record { parameters_same = refl; drawn_same = refl };
-      there = c.part-of-part.ensures;
-      worked = rw (← c.part-of-part.ensures) (omega arith);
+      there = c.part_of-part.ensures;
+      worked = rw (← c.part_of-part.ensures) (omega arith);
     }

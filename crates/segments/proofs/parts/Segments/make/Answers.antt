@@ -6,8 +6,8 @@ use Rattle.segments.proofs.parts.Segments.make.Goals as goal
 pub invariant-of-self : goal.invariant-of-self
 invariant-of-self c =
     let last = c.args.parameters.last in
-    let stored = c.store-ends-zero.ensures.stored in
-    let ends = c.store-ends-zero.new.ends in
+    let stored = c.store_ends-zero.ensures.stored in
+    let ends = c.store_ends-zero.new.ends in
     let e = sym (drawn_in_lem last c.args.drawn.bytes ends (omega arith) stored) in (
       search rules,
       (
@@ -19,7 +19,7 @@ invariant-of-self c =
             (
               (λ b h. stored b h ∙ ap (λ d. key_at last d (top_of last b)) e),
               (
-                c.fill-part-made.ensures.filled (drawn_in last ends) (stored 0 (omega arith) ∙ ap (λ d. key_at last d (top_of last 0)) e),
+                c.fill_part-made.ensures.filled (drawn_in last ends) (stored 0 (omega arith) ∙ ap (λ d. key_at last d (top_of last 0)) e),
                 ((λ j h. absurd (omega arith)), tt),
               ),
             ),
@@ -32,8 +32,8 @@ pub returns : goal.returns
 returns c = record {
   made = record {
     parameters_are = refl;
-    drawn_is = drawn_in_lem c.args.parameters.last c.args.drawn.bytes c.store-ends-zero.new.ends (omega arith) c.store-ends-zero.ensures.stored;
+    drawn_is = drawn_in_lem c.args.parameters.last c.args.drawn.bytes c.store_ends-zero.new.ends (omega arith) c.store_ends-zero.ensures.stored;
     part_is = refl;
   };
-  first = c.store-ends-zero.ensures.first;
+  first = c.store_ends-zero.ensures.first;
 }

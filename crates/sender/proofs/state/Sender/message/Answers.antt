@@ -13,40 +13,40 @@ use Rattle.sender.proofs.Held.{told_held}
 use Rattle.sender.proofs.state.Sender.message.Goals as goal
 use Rattle.sender.proofs.state.Sender.message.Goals.{then-interval-eq0, else-interval-eq0}
 
-pub held-key-key-requires : goal.held-key-key-requires
-held-key-key-requires c =
+pub held_key-key-requires : goal.held_key-key-requires
+held_key-key-requires c =
     let me = c.args.self.now in
     let s = state_of me in
-    let i = c.interval-of-i.result in
+    let i = c.interval_of-i.result in
     let q = c.parameters-p.ensures in
-    let at_i = c.interval-of-i.ensures ∙ ap (λ p. min (interval_at (parameters_of p) me.clock) 65535) q in
+    let at_i = c.interval_of-i.ensures ∙ ap (λ p. min (interval_at (parameters_of p) me.clock) 65535) q in
     let e = lies_in_range s i at_i c.requires.1 me.chain.parameters.few_intervals in
-    let new = c.newest-in.ensures ∙ ap (λ p. newest_in (parameters_of p) i) q in
-    told_held me.chain i c.newest-in.result c.next-interval.result.0 me.turn (omega (arith, e)) (me.there ∙ ap (part_of me.chain.parameters.last) (sym e)) new c.if-interval-eq0.false c.next-interval.ensures.told
+    let new = c.newest_in.ensures ∙ ap (λ p. newest_in (parameters_of p) i) q in
+    told_held me.chain i c.newest_in.result c.next-interval.result.0 me.turn (omega (arith, e)) (me.there ∙ ap (part_of me.chain.parameters.last) (sym e)) new c.if-interval-eq0.false c.next-interval.ensures.told
 
 pub returns : goal.returns
 returns c =
     let me = c.args.self.now in
     let s = state_of me in
     let text = c.args.text.now in
-    let i = c.interval-of-i.result in
+    let i = c.interval_of-i.result in
     let j = c.next-interval.result.0 in
     let q = c.parameters-p.ensures in
-    let at_i = c.interval-of-i.ensures ∙ ap (λ p. min (interval_at (parameters_of p) me.clock) 65535) q in
+    let at_i = c.interval_of-i.ensures ∙ ap (λ p. min (interval_at (parameters_of p) me.clock) 65535) q in
     let e = lies_in_range s i at_i c.requires.1 me.chain.parameters.few_intervals in
-    let new = c.newest-in.ensures ∙ ap (λ p. newest_in (parameters_of p) i) q in
-    let n : c.newest-in.result ≡ newest s = new ∙ ap (newest_in s.numbers) e in
+    let new = c.newest_in.ensures ∙ ap (λ p. newest_in (parameters_of p) i) q in
+    let n : c.newest_in.result ≡ newest s = new ∙ ap (newest_in s.numbers) e in
     let k : c.if-interval-eq0.key.bytes ≡ key_shown s j =
     elim c.if-interval-eq0.branch [
       | then-interval-eq0 w ↦ no_key_shown s j _ w.if-interval-eq0.true (ap (λ x. x.bytes) w.key-is)
-      | else-interval-eq0 w ↦ key_shown_lem s j _ w.if-interval-eq0.false (ap (λ x. x.bytes) w.key-is ∙ w.held-key-key.ensures)
+      | else-interval-eq0 w ↦ key_shown_lem s j _ w.if-interval-eq0.false (ap (λ x. x.bytes) w.key-is ∙ w.held_key-key.ensures)
     ] in
     let short : length text ≤ 200 = c.requires.0 in
-    let x = packet (record { interval = i; index = s.index; text = text }) c.tag-of-tag.result (record { interval = j; key = c.if-interval-eq0.key.bytes }) in
+    let x = packet (record { interval = i; index = s.index; text = text }) c.tag_of-tag.result (record { interval = j; key = c.if-interval-eq0.key.bytes }) in
     let m =
-    message_is s text c.tag-of-tag.result c.if-interval-eq0.key.bytes i j e
+    message_is s text c.tag_of-tag.result c.if-interval-eq0.key.bytes i j e
     (c.next-interval.ensures.told ∙ ap (disclosed me.turn) n)
-    (c.tag-of-tag.ensures ∙ ap (λ own. tagged own (message_bytes (record { interval = i; index = s.index; text = text }))) c.held-key.ensures)
+    (c.tag_of-tag.ensures ∙ ap (λ own. tagged own (message_bytes (record { interval = i; index = s.index; text = text }))) c.held_key.ensures)
     k in
     record {
       length = count_is (length text) c.in-Ok.count (length (message_encoded x)) c.write.result c.write.ensures.answer c.in-Ok.is short ∙ ap (λ x. length (message_encoded x)) m;

@@ -5,5 +5,5 @@ use Rattle.simulation.proofs.cast.Cast.send.Goals as goal
 
 pub returns : goal.returns
 returns c =
-    let pushed = chosen _ _ _ _ c.push.ensures.items (ap is_ok c.in-ok-push.was) in
-    sent_more _ _ _ _ pushed c.in-ok-record.ensures.items
+    let pushed = chosen _ _ _ _ c.push.ensures.items (ap is_ok c.in_ok-push.was) in
+    sent_more _ _ _ _ pushed c.in_ok-record.ensures.items
