@@ -8,7 +8,7 @@ loop-text-init c = (done_none _, omega arith)
 
 pub returns-in_err-stage : goal.returns-in_err-stage
 returns-in_err-stage c =
-    let p = err_from_is_err_and c.from-residual.result c.from-residual.ensures.1 in
+    let p = err_from_is_err_and c.from_residual.result c.from_residual.ensures.1 in
     rw (p.1, p.2) (stops _ _ _ _ c.loop-text.line _ c.loop-text.invariant.0 c.in-Some.ensures.0 c.in_err-stage.ensures)
 
 pub loop-text-preserved : goal.loop-text-preserved
@@ -17,7 +17,7 @@ loop-text-preserved c =
 
 pub returns-in_err-stage-2 : goal.returns-in_err-stage-2
 returns-in_err-stage-2 c =
-    let p = err_from_is_err_and c.from-residual-in_err-stage-2.result c.from-residual-in_err-stage-2.ensures.1 in
+    let p = err_from_is_err_and c.from_residual-in_err-stage-2.result c.from_residual-in_err-stage-2.ensures.1 in
     rw (p.1, p.2) (stops _ _ _ _ c.loop-text.line _ c.loop-text.invariant.0 c.in_default.ensures c.in_err-stage-2.ensures)
 
 pub returns : goal.returns

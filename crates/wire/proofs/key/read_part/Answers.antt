@@ -5,4 +5,4 @@ use Rattle.wire.proofs.key.read_part.Goals as goal
 pub returns : goal.returns
 returns c =
     let h = c.in-Ok.ensures.1 in
-    (key_part_whole c.args.b.now _ _ (λ i. (c.ok.b i).fits) (omega arith) c.number-interval.ensures h.same, record { interval = c.number-interval.type_inv; key = ap length h.same ∙ h.long })
+    (key_part_whole c.args.b.now _ _ (λ i. omega (arith, c.type_inv.b i)) (omega arith) c.number-interval.ensures h.same, record { interval = c.number-interval.type_inv; key = ap length h.same ∙ h.long })

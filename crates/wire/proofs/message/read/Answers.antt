@@ -12,8 +12,8 @@ returns-in_default-read_part c =
     let t = c.in-Some.ensures.cases in
     (refl, form_not 1 55 _ _ _ h.whole (λ e. c.in_default-read_part.ensures.1 (omega (arith, t.2))))
 
-pub slice-bounds-result-end : goal.slice-bounds-result-end
-slice-bounds-result-end c = let h = c.in-Ok.ensures in let l = length-append c.in-Ok.said.text.now c.in-Ok.rest.now in let w = ap length h.whole in search rules
+pub slice_bounds-result-end : goal.slice_bounds-result-end
+slice_bounds-result-end c = let h = c.in-Ok.ensures in let l = length-append c.in-Ok.said.text.now c.in-Ok.rest.now in let w = ap length h.whole in search rules
 
 pub returns : goal.returns
 returns c =
