@@ -62,8 +62,8 @@ returns c =
     let e : c.loop-b.b ≡ c.args.buffer.now.len = omega arith in
     record { count = rw (← e) c.loop-b.invariant.0; tags = rw (← e) c.loop-b.invariant.1; messages = λ k o. rw (← e) (c.loop-b.invariant.2 k o) }
 
-pub overflow-add-tags : goal.overflow-add-tags
-overflow-add-tags c =
+pub overflow_add-tags : goal.overflow_add-tags
+overflow_add-tags c =
     let up = of_first c.args.interval c.loop-b.b c.args.buffer.now.len c.args.buffer.now.messages (omega arith) in
     let m : c.loop-b.tags ≤ 64 = omega (arith, up, c.requires, c.loop-b.invariant.1) in
     omega (arith, m)

@@ -7,4 +7,4 @@ pub loop-i-init : goal.loop-i-init
 loop-i-init c = sym (down_none c.args.key.now.bytes)
 
 pub loop-i-preserved : goal.loop-i-preserved
-loop-i-preserved c = c.previous.ensures ∙ (ap stepped c.loop-i.invariant ∙ sym (down_more c.loop-i.-i c.args.key.now.bytes))
+loop-i-preserved c = c.previous.ensures ∙ (ap stepped c.loop-i.invariant ∙ sym (down_more c.loop-i._i c.args.key.now.bytes))

@@ -50,8 +50,8 @@ returns c = record {
       rw (z, d) at i;
 }
 
-pub overflow-add-tags : goal.overflow-add-tags
-overflow-add-tags c =
+pub overflow_add-tags : goal.overflow_add-tags
+overflow_add-tags c =
     let b = c.args.self.now in
     let ws = messages_of b in
     let l = count_is b in

@@ -3,7 +3,7 @@ use Rattle.model.specs.Receiver.{Message, is_in}
 use Rattle.buffer.specs.Buffers.{as_message, messages_in}
 use Rattle.buffer.proofs.Lists.{messages_none, in_none, found_yes, found_no}
 use Rattle.buffer.proofs.room.Buffer.has.Goals as goal
-use Rattle.buffer.proofs.room.Buffer.has.Goals.{then_same, else_same}
+use Rattle.buffer.proofs.room.Buffer.has.Goals.{then-same, else-same}
 
 pub loop-i-init : goal.loop-i-init
 loop-i-init c = rw (messages_none, in_none)
@@ -13,8 +13,8 @@ loop-i-preserved c =
     let ks = c.args.self.now.messages in
     let h : c.loop-i.i < length ks = omega (arith, c.args.self.now.sized, c.args.self.now.few) in
     elim c.if-same.branch [
-      | then_same w ↦ found_yes (as_message c.args.k.now) ks c.loop-i.i c.index-self-i.result c.loop-i.found c.same.result _ h c.index-self-i.is c.loop-i.invariant c.same.ensures w.if-same.true w.found-is
-      | else_same w ↦ found_no (as_message c.args.k.now) ks c.loop-i.i c.index-self-i.result c.loop-i.found c.same.result _ h c.index-self-i.is c.loop-i.invariant c.same.ensures w.if-same.false w.found-is
+      | then-same w ↦ found_yes (as_message c.args.k.now) ks c.loop-i.i c.index-self-i.result c.loop-i.found c.same.result _ h c.index-self-i.is c.loop-i.invariant c.same.ensures w.if-same.true w.found-is
+      | else-same w ↦ found_no (as_message c.args.k.now) ks c.loop-i.i c.index-self-i.result c.loop-i.found c.same.result _ h c.index-self-i.is c.loop-i.invariant c.same.ensures w.if-same.false w.found-is
     ]
 
 pub returns : goal.returns

@@ -2,8 +2,8 @@ use Rattle.std.proofs.Common.{sym, ◌∙◌, arith, rules}
 use Rattle.segments.proofs.Keys.{one_key, one_part}
 use Rattle.segments.proofs.parts.Segments.blank.Goals as goal
 
-pub invariant-of-result : goal.invariant-of-result
-invariant-of-result c =
+pub invariant_of-result : goal.invariant_of-result
+invariant_of-result c =
     let last = c.smallest.result.last in
     let ends = c.no_keys.result in
     let keys = c.no_keys-2.result in (

@@ -4,8 +4,8 @@ use Rattle.segments.specs.Held.{last_of}
 use Rattle.segments.proofs.Work.{length_work, length_none}
 use Rattle.segments.proofs.parts.Segments.enter.Goals as goal
 
-pub invariant-of-self : goal.invariant-of-self
-invariant-of-self c =
+pub invariant_of-self : goal.invariant_of-self
+invariant_of-self c =
     let old = c.args.self.now in (
       search rules,
       (

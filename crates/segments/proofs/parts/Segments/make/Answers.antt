@@ -3,8 +3,8 @@ use Rattle.segments.specs.Parts.{key_at, top_of, drawn_in}
 use Rattle.segments.proofs.Keys.{drawn_in_lem}
 use Rattle.segments.proofs.parts.Segments.make.Goals as goal
 
-pub invariant-of-self : goal.invariant-of-self
-invariant-of-self c =
+pub invariant_of-self : goal.invariant_of-self
+invariant_of-self c =
     let last = c.args.parameters.last in
     let stored = c.store_ends-zero.ensures.stored in
     let ends = c.store_ends-zero.new.ends in
