@@ -6,25 +6,16 @@ use Rattle.segments.proofs.parts.Segments.enter.Goals as goal
 
 pub invariant_of-self : goal.invariant_of-self
 invariant_of-self c =
-    let old = c.args.self.now in (
-      search rules,
-      (
-        search rules,
-        (
-          search rules,
-          (
-            omega arith,
-            (
-              old.ends_are,
-              (
-                c.fill_part-made.ensures.filled _ (old.ends_are c.part_of-part.result (omega arith)),
-                (c.fill_tail-moved.ensures.filled _ old.ends_are old.keys_are, tt),
-              ),
-            ),
-          ),
-        ),
-      ),
-    )
+    let old = c.args.self.now in
+    record {
+      ends_long = search rules;
+      keys_long = search rules;
+      tail_long = search rules;
+      placed = omega arith;
+      ends_are = old.ends_are;
+      keys_are = c.fill_part-made.ensures.filled _ (old.ends_are c.part_of-part.result (omega arith));
+      tail_is = c.fill_tail-moved.ensures.filled _ old.ends_are old.keys_are;
+    }
 
 pub returns-then-part-self : goal.returns-then-part-self
 returns-then-part-self c =

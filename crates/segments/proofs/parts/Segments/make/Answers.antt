@@ -8,25 +8,16 @@ invariant_of-self c =
     let last = c.args.parameters.last in
     let stored = c.store_ends-zero.ensures.stored in
     let ends = c.store_ends-zero.new.ends in
-    let e = sym (drawn_in_lem last c.args.drawn.bytes ends (omega arith) stored) in (
-      search rules,
-      (
-        search rules,
-        (
-          search rules,
-          (
-            omega arith,
-            (
-              (λ b h. stored b h ∙ ap (λ d. key_at last d (top_of last b)) e),
-              (
-                c.fill_part-made.ensures.filled (drawn_in last ends) (stored 0 (omega arith) ∙ ap (λ d. key_at last d (top_of last 0)) e),
-                ((λ j h. absurd (omega arith)), tt),
-              ),
-            ),
-          ),
-        ),
-      ),
-    )
+    let e = sym (drawn_in_lem last c.args.drawn.bytes ends (omega arith) stored) in
+    record {
+      ends_long = search rules;
+      keys_long = search rules;
+      tail_long = search rules;
+      placed = omega arith;
+      ends_are = λ b h. stored b h ∙ ap (λ d. key_at last d (top_of last b)) e;
+      keys_are = c.fill_part-made.ensures.filled (drawn_in last ends) (stored 0 (omega arith) ∙ ap (λ d. key_at last d (top_of last 0)) e);
+      tail_is = λ j h. absurd (omega arith);
+    }
 
 pub returns : goal.returns
 returns c = record {

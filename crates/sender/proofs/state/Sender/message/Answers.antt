@@ -20,7 +20,7 @@ held_key-key-requires c =
     let i = c.interval_of-i.result in
     let q = c.parameters-p.ensures in
     let at_i = c.interval_of-i.ensures ∙ ap (λ p. min (interval_at (parameters_of p) me.clock) 65535) q in
-    let e = lies_in_range s i at_i c.requires.1 me.chain.parameters.few_intervals in
+    let e = lies_in_range s i at_i c.requires.self_value me.chain.parameters.few_intervals in
     let new = c.newest_in.ensures ∙ ap (λ p. newest_in (parameters_of p) i) q in
     told_held me.chain i c.newest_in.result c.next-interval.result.0 me.turn (omega (arith, e)) (me.there ∙ ap (part_of me.chain.parameters.last) (sym e)) new c.if-interval-eq0.false c.next-interval.ensures.told
 
@@ -33,7 +33,7 @@ returns c =
     let j = c.next-interval.result.0 in
     let q = c.parameters-p.ensures in
     let at_i = c.interval_of-i.ensures ∙ ap (λ p. min (interval_at (parameters_of p) me.clock) 65535) q in
-    let e = lies_in_range s i at_i c.requires.1 me.chain.parameters.few_intervals in
+    let e = lies_in_range s i at_i c.requires.self_value me.chain.parameters.few_intervals in
     let new = c.newest_in.ensures ∙ ap (λ p. newest_in (parameters_of p) i) q in
     let n : c.newest_in.result ≡ newest s = new ∙ ap (newest_in s.numbers) e in
     let k : c.if-interval-eq0.key.bytes ≡ key_shown s j =
@@ -41,7 +41,7 @@ returns c =
       | then-interval-eq0 w ↦ no_key_shown s j _ w.if-interval-eq0.true (ap (λ x. x.bytes) w.key-is)
       | else-interval-eq0 w ↦ key_shown_lem s j _ w.if-interval-eq0.false (ap (λ x. x.bytes) w.key-is ∙ w.held_key-key.ensures)
     ] in
-    let short : length text ≤ 200 = c.requires.0 in
+    let short : length text ≤ 200 = c.requires.text_len_bound in
     let x = packet (record { interval = i; index = s.index; text = text }) c.tag_of-tag.result (record { interval = j; key = c.if-interval-eq0.key.bytes }) in
     let m =
     message_is s text c.tag_of-tag.result c.if-interval-eq0.key.bytes i j e
