@@ -1,11 +1,11 @@
 -- One more message of a buffer.
-use Rattle.std.proofs.Common.{◌≡◌, ℕ, suc, ◌+◌, ◌<◌, ◌≤◌, Bool, true, false, cond, ◌||◌, eqb, ltb, leb, List, [], ◌∷◌, ◌++◌, map, length, get_or, take, filter, sym, refl, ap, ◌∙◌, arith}
-use Rattle.std.proofs.lemmas.List.{map_more, map_push, length-map, length-append, length-take-le}
+use Rattle.std.proofs.Common.{◌≡◌, ℕ, suc, ◌+◌, ◌<◌, Bool, true, false, cond, ◌||◌, eqb, ltb, leb, List, [], ◌∷◌, ◌++◌, map, length, get_or, take, filter, sym, refl, ap, ◌∙◌, arith}
+use Rattle.std.proofs.lemmas.List.{map_more, map_push, length-map, length-take-le}
 use Rattle.std.proofs.lemmas.Bool.{cond_both, ltb-true, ltb-false, lt-leb, le-leb, cond-true, cond-false}
 use Rattle.model.specs.Receiver.{Message, same_message, is_in, of_interval, later_than}
 use Rattle.buffer.specs.declared.message.Buffered.{Buffered}
 use Rattle.buffer.specs.declared.room.Buffer.{Buffer}
-use Rattle.buffer.specs.Buffers.{as_message, as_said, messages_in, saids_in, messages_of}
+use Rattle.buffer.specs.Buffers.{as_message, messages_in, saids_in, messages_of}
 
 pub messages_none : messages_in [] ≡ []
 unfolding messages_in

@@ -1,5 +1,5 @@
 -- What a buffer stands for: messages of the model, in the order in which they came.
-use Rattle.std.specs.Prelude.{◌≡◌, ℕ, suc, ◌-◌, ◌<◌, ◌≤◌, Bool, cond, ◌&&◌, List, [], ◌∷◌, ◌++◌, map, length, take, ◌==◌, nat_le, slice_index_or}
+use Rattle.std.specs.Prelude.{◌≡◌, ℕ, suc, ◌-◌, ◌<◌, ◌≤◌, Bool, cond, ◌&&◌, List, [], ◌∷◌, map, length, take, ◌==◌, nat_le, slice_index_or}
 use Rattle.model.specs.Receiver.{Message, Said, walked}
 use Rattle.sha256.specs.Hmac.{hmac}
 use Rattle.keychain.specs.declared.key.Key.{Key}

@@ -1,5 +1,5 @@
 -- Frames, over lists of numbers.
-use Rattle.std.specs.Prelude.{◌≡◌, ℕ, ◌/◌, ◌%◌, ◌<◌, cond, List, [], ◌∷◌, ◌++◌, length, take, drop, Some, None, Ok, Err, Option, Result, nat_le}
+use Rattle.std.specs.Prelude.{◌≡◌, ℕ, ◌/◌, ◌%◌, ◌<◌, cond, List, ◌∷◌, ◌++◌, length, take, drop, Some, None, Ok, Err, Option, Result, nat_le}
 use Rattle.timing.specs.declared.refusal.Refusal.{Refusal}
 use Rattle.frames.specs.declared.head.Head.{Head}
 use Rattle.frames.specs.declared.head.Source.{Source}

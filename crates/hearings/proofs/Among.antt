@@ -1,9 +1,9 @@
 -- What was said, one after the other, and deliveries.
-use Rattle.std.proofs.Common.{◌≡◌, ℕ, ◌+◌, ◌<◌, ◌≤◌, Bool, true, false, ◌||◌, List, [], ◌∷◌, ◌++◌, map, length, get_or, take, drop, sym, refl, ap, ◌∙◌, append_assoc}
+use Rattle.std.proofs.Common.{◌≡◌, ℕ, ◌+◌, ◌<◌, ◌≤◌, Bool, true, false, ◌||◌, List, [], ◌∷◌, ◌++◌, map, length, get_or, take, drop, sym, refl, ap, ◌∙◌}
 use Rattle.std.proofs.lemmas.List.{drop_more, drop_all, take_more}
-use Rattle.buffer.specs.Buffers.{as_said, as_message, messages_in, saids_in}
+use Rattle.buffer.specs.Buffers.{as_said, messages_in, saids_in}
 use Rattle.buffer.specs.declared.message.Buffered.{Buffered}
-use Rattle.model.specs.Receiver.{Said, Message}
+use Rattle.model.specs.Receiver.{Said}
 use Rattle.hearings.specs.declared.event.Delivery.{Delivery}
 use Rattle.hearings.specs.declared.event.Saying.{Saying}
 use Rattle.hearings.specs.Saids.{Marked, saying_of, sayings_of, same_said, is_among_said, delivery_of, deliveries_of, mark, marked}

@@ -1,5 +1,5 @@
 -- What was said, and deliveries beside it.
-use Rattle.std.specs.Prelude.{Bool, true, false, ◌&&◌, ◌||◌, List, [], ◌∷◌, map, vec_items, ◌==◌}
+use Rattle.std.specs.Prelude.{Bool, false, ◌&&◌, ◌||◌, List, [], ◌∷◌, map, vec_items, ◌==◌}
 use Rattle.std.specs.Str.{bytes_eq}
 use Rattle.model.specs.Receiver.{Said}
 use Rattle.hearings.specs.declared.event.Delivery.{Delivery}

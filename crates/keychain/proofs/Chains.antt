@@ -1,15 +1,13 @@
 -- One more step of the chain, and the model's terms in bytes.
-use Rattle.std.proofs.Common.{◌≡◌, ℕ, ◌+◌, ◌-◌, ◌<◌, ◌≤◌, true, false, cond, ltb, leb, ◌⊎◌, List, [], ◌∷◌, get_or, sym, refl, ap, ◌∙◌, inl, inr, add-one, arith}
+use Rattle.std.proofs.Common.{◌≡◌, ℕ, ◌+◌, ◌-◌, ◌<◌, ◌≤◌, cond, ltb, leb, List, [], ◌∷◌, get_or, sym, refl, ap, ◌∙◌, inl, inr, add-one, arith}
 use Rattle.std.proofs.lemmas.Bool.{cond-true, cond-false, cond_both, le-leb, lt-leb, lt-ltb, le-ltb, cases_lt, cases_eq}
 use Rattle.sha256.specs.Hmac.{hmac}
-use Rattle.timing.specs.Time.{Params}
 use Rattle.model.specs.Term.{val, Seed}
 use Rattle.timing.specs.declared.refusal.Refusal.TheVariants.{KeyNotAfter, KeyTooFar}
-use Rattle.model.specs.Receiver.{refused, judge_walk, walk_steps, walked, tag_bytes, message_bytes, Said}
-use Rattle.model.specs.Run.{key_term}
+use Rattle.model.specs.Receiver.{refused, judge_walk, walk_steps, walked, tag_bytes, message_bytes}
 use Rattle.model.proofs.Terms.{val_down}
 use Rattle.keychain.specs.declared.key.Key.{Key}
-use Rattle.keychain.specs.Chain.{key_down, zeros, zero_key, absent_key, Collected, drawing, TermsAre, ChainTerms}
+use Rattle.keychain.specs.Chain.{key_down, zeros, zero_key, absent_key, Collected, drawing, ChainTerms}
 
 pub down_none : (k : List ℕ) → key_down 0 k ≡ k
 unfolding walked

@@ -1,10 +1,10 @@
 -- The air: what the sender has sent by a tick, and what of it shows who said what.
-use Rattle.std.proofs.Common.{◌≡◌, ℕ, ◌+◌, ◌/◌, ◌%◌, ◌<◌, ◌≤◌, Bool, true, ◌||◌, eqb, leb, ◌⊎◌, List, [], ◌∷◌, map, sym, refl, ap, ◌∙◌, inl, inr, arith}
+use Rattle.std.proofs.Common.{◌≡◌, ℕ, ◌/◌, ◌%◌, ◌<◌, ◌≤◌, Bool, true, ◌||◌, eqb, leb, List, [], ◌∷◌, refl, ap, ◌∙◌, inl, inr, arith}
 use mathlib.Core.List.Memᴰ
 use mathlib.Core.List.{Memᴰ}
-use Rattle.std.proofs.lemmas.Bool.{leb-true, le-leb, eqb-true, eq-eqb, or_cases, or_left, or_right, cases_lt}
+use Rattle.std.proofs.lemmas.Bool.{leb-true, le-leb, eqb-true, eq-eqb, or_cases, or_left, or_right}
 use Rattle.timing.specs.Time.{Params, interval_at, opening, release}
-use Rattle.model.specs.Term.{Term, Gets, Outs, Out, Sent, Fair, key_out, tag_sent, open_text, FairAir}
+use Rattle.model.specs.Term.{Term, Gets, Outs, Fair, key_out, tag_sent, open_text, FairAir}
 use Rattle.model.specs.Receiver.{Said, message_bytes}
 use Rattle.model.specs.Run.{key_term, tag_of, Utterance, MaySay}
 use Rattle.model.specs.Promise.{WasSaid}

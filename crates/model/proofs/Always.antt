@@ -7,9 +7,9 @@ use Rattle.std.proofs.lemmas.Slice.Eq.{bytes_eq-Decides}
 use Rattle.std.proofs.lemmas.Bool.{and_parts, cond_both, cases_lt, false≢true, leb-false, leb-true, ltb-true, ltb-false, both_ways}
 use Rattle.timing.specs.Time.{Params, interval_at, release, may_be_out, too_early}
 use Rattle.timing.specs.declared.refusal.Refusal.TheVariants.{OutOfRange, TooLate, KeyHad, TooEarly, NoRoom, KeyNotAfter, KeyTooFar, KeyMisfit}
-use Rattle.model.specs.Term.{Term, Bytes, MacFn, Gets, val, down, FairAir}
-use Rattle.model.specs.Receiver.{Said, Message, Event, ticked, heard, disclosed, Outcome, told, buffered, already, taken, refused, State, Receiver, ours, in_chain, is_in, has_room, judge, is_buffered, hears, walked, judge_key, is_taken, right_up_to, later_than, learns, delivers, ticks}
-use Rattle.model.specs.Run.{key_term, key_bytes, tag_of, Genuine, Utterance, MaySay, Site, World, first_site, start, site_after, clock_after, kept_after, BringsKey, BringsTag, Within, Brings, put, brought, Step, passes, says, discloses, brings, Later, here, onward}
+use Rattle.model.specs.Term.{Term, Bytes, val, down, FairAir}
+use Rattle.model.specs.Receiver.{Said, Message, Event, ticked, heard, disclosed, buffered, already, taken, refused, State, ours, in_chain, is_in, has_room, judge, is_buffered, hears, walked, judge_key, is_taken, right_up_to, later_than, learns, delivers, ticks}
+use Rattle.model.specs.Run.{key_term, key_bytes, tag_of, Genuine, Utterance, MaySay, Site, World, start, site_after, BringsKey, BringsTag, Brings, Step, passes, says, discloses, brings, Later, here, onward}
 use Rattle.model.specs.Promise.{Once, Rising, WasSaid}
 use Rattle.model.proofs.Terms.{chain_down, down_inj, val_down}
 use Rattle.model.proofs.Intervals.{not_opened}

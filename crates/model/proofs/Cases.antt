@@ -1,11 +1,11 @@
 -- The worked cases.
-use Rattle.std.proofs.Common.{◌≡◌, ℕ, ◌+◌, ◌-◌, ◌<◌, ◌≤◌, Bool, true, false, ◌⊎◌, List, [], ◌∷◌, ◌++◌, get_or, refl, inl, inr, arith}
+use Rattle.std.proofs.Common.{◌≡◌, ℕ, ◌-◌, true, false, List, [], get_or, refl, inl, inr, arith}
 use Rattle.std.specs.Str.{bytes_eq}
 use Rattle.std.proofs.lemmas.Slice.Eq.{bytes_eq-Decides}
 use Rattle.std.proofs.lemmas.Bool.{cases_Bool}
 use Rattle.model.specs.Term.{MacFn}
 use Rattle.model.specs.Receiver.{walked, is_in, of_interval, right_of, right_up_to, later_than, tag_bytes, message_bytes, first_state}
-use Rattle.model.specs.Cases.{hut, rows, Row, Holds, results, flood, quietly, said, Worked, WorkedCases}
+use Rattle.model.specs.Cases.{rows, results, flood, quietly, said, WorkedCases}
 
 same : (xs : List ℕ) → bytes_eq xs xs ≡ true
 same xs = (bytes_eq-Decides xs xs).1 refl

@@ -1,6 +1,6 @@
 -- Intervals of ticks.
-use Rattle.std.proofs.Common.{◌≡◌, ℕ, zero, suc, ◌+◌, ◌-◌, ◌*◌, ◌/◌, ◌<◌, ◌≤◌, true, false, ◌&&◌, ltb, leb, ◌⊎◌, inl, inr, le_trans, mul_comm, div-lt_iff_lt-mul, add-mul, le-div_iff_mul-le, div-mul-le_self, arith}
-use Rattle.std.proofs.lemmas.Bool.{and_parts, leb-true, ltb-true, lt-leb, le-ltb, leb-false, cases_lt}
+use Rattle.std.proofs.Common.{◌≡◌, ℕ, ◌+◌, ◌-◌, ◌*◌, ◌/◌, ◌<◌, ◌≤◌, true, false, ◌&&◌, leb, inl, inr, le_trans, div-lt_iff_lt-mul, le-div_iff_mul-le, div-mul-le_self, arith}
+use Rattle.std.proofs.lemmas.Bool.{and_parts, leb-true, ltb-true, lt-leb, le-ltb, cases_lt}
 use Rattle.timing.specs.Time.{Params, in_range, interval_at, opening, release, may_be_out, too_early}
 
 -- what the limits of the settings say

@@ -1,19 +1,18 @@
 -- Our receiver keeps the promise.
-use Rattle.std.proofs.Common.{◌≡◌, ℕ, ◌+◌, ◌-◌, ◌*◌, ◌<◌, ◌≤◌, Bool, true, false, cond, not, ◌&&◌, ltb, leb, ◌⊎◌, List, [], ◌∷◌, ◌++◌, sym, refl, ap, ◌∙◌, subst, inl, inr, arith}
+use Rattle.std.proofs.Common.{◌≡◌, ℕ, ◌+◌, ◌-◌, ◌*◌, ◌<◌, ◌≤◌, true, false, ◌&&◌, ltb, leb, ◌⊎◌, List, [], ◌∷◌, ◌++◌, sym, refl, ap, ◌∙◌, subst, inl, inr, arith}
 use mathlib.Core.List.{Memᴰ}
-use Rattle.std.specs.Str.{bytes_eq}
 use Rattle.std.proofs.lemmas.Slice.Eq.{bytes_eq-Decides}
-use Rattle.std.proofs.lemmas.Bool.{and_parts, and_from, cases_Bool, cond_both, cond-true, cond-false, leb-true, lt-leb, lt-ltb, le-leb, le-ltb, both_ways}
-use Rattle.timing.specs.Time.{Params, opening, release, interval_at}
-use Rattle.model.specs.Term.{Bytes, Term, Gets, val, down}
-use Rattle.model.specs.Receiver.{Said, Message, Event, ticked, heard, disclosed, Outcome, buffered, already, taken, State, ours, in_chain, is_in, has_room, judge, is_buffered, hears, walked, judge_key, is_taken, later_than, learns, delivers, walk_steps, key_steps, ticks, outcome, after, steps}
+use Rattle.std.proofs.lemmas.Bool.{and_from, cases_Bool, cond_both, cond-false, leb-true, lt-leb, lt-ltb, le-leb, le-ltb, both_ways}
+use Rattle.timing.specs.Time.{Params, opening, release}
+use Rattle.model.specs.Term.{Bytes, Term, Gets, val}
+use Rattle.model.specs.Receiver.{Said, Message, Event, ticked, heard, disclosed, buffered, already, taken, State, ours, in_chain, is_in, has_room, judge, is_buffered, hears, walked, judge_key, is_taken, later_than, learns, walk_steps, key_steps, ticks, after, steps}
 use Rattle.model.specs.Run.{key_term, key_bytes, message_of, MaySay, World, BringsKey, Within, Brings}
-use Rattle.model.specs.Promise.{WasSaid, Discloses, Carries, KeptPromise, Meets}
+use Rattle.model.specs.Promise.{WasSaid, Discloses, Carries, Meets}
 use Rattle.model.proofs.Terms.{chain_down, val_down}
 use Rattle.model.proofs.Intervals.{limits, interval_mono, in_time, not_early, not_begun}
 use Rattle.model.proofs.Buffers.{is_in_lem, later_from, later_has}
 use Rattle.model.proofs.Air.{key_released}
-use Rattle.model.proofs.Always.{Outside, Inside, Always, always, is_taken_lem, hears_newest}
+use Rattle.model.proofs.Always.{Outside, always, is_taken_lem, hears_newest}
 
 well_formed : (p : Params) (t : Said) {at : ℕ} → MaySay p (record { says = t; at = at }) → 0 < t.interval → (in_chain p t.interval && leb t.index 63) ≡ true
 well_formed p t u z = and_from _ _ (and_from _ _ (lt-ltb 0 t.interval z) (le-leb t.interval p.last u.lies_in_chain)) (le-leb t.index 63 u.low_index)

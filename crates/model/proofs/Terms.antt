@@ -1,9 +1,9 @@
 -- What can be worked out of a fair air.
-use Rattle.std.proofs.Common.{◌≡◌, ℕ, zero, suc, ◌+◌, ◌-◌, ◌<◌, ◌≤◌, true, leb, ◌⊎◌, List, [], ◌∷◌, sym, refl, ap, ◌∙◌, inl, inr, suc-add, zero-add, arith}
+use Rattle.std.proofs.Common.{◌≡◌, ℕ, zero, suc, ◌+◌, ◌-◌, ◌≤◌, leb, ◌⊎◌, List, [], ◌∷◌, sym, refl, ap, ◌∙◌, inl, inr, suc-add, zero-add, arith}
 use mathlib.Core.List.Memᴰ
 use mathlib.Core.List.{Memᴰ}
 use Rattle.std.proofs.lemmas.Bool.{leb-true, le-leb}
-use Rattle.model.specs.Term.{Term, Text, Seed, Mac, Cut, Gets, has, text, mac, cut, Bytes, MacFn, val, down, chain_key, mac_key, tag_term, Outs, Out, Sent, key, Fair, key_out, tag_sent, open_text, FairAir, OneWay, KeyLate, TagLate, InTime}
+use Rattle.model.specs.Term.{Term, Text, Seed, Mac, Cut, Gets, has, text, mac, cut, Bytes, val, down, chain_key, mac_key, Outs, Out, Sent, key, Fair, key_out, tag_sent, open_text, FairAir, OneWay, KeyLate, TagLate, InTime}
 use Rattle.model.specs.Receiver.{walked}
 
 -- the steps that a key is down from the seed, and that seed

@@ -1,14 +1,14 @@
 -- A run in which all goes well, and one in which the key is out as soon as the safety test refuses.
-use Rattle.std.proofs.Common.{◌≡◌, ℕ, ◌+◌, ◌-◌, ◌*◌, ◌<◌, ◌≤◌, true, ltb, List, [], ◌∷◌, sym, refl, subst, mul_comm, add-mul, arith}
+use Rattle.std.proofs.Common.{◌≡◌, ℕ, ◌+◌, ◌-◌, ◌*◌, ◌<◌, ◌≤◌, ltb, List, [], ◌∷◌, sym, refl, subst, mul_comm, add-mul, arith}
 use mathlib.Core.List.{Memᴰ}
 use native.Mathlib.Nat.{zero-div}
 use Rattle.std.proofs.lemmas.Bool.{leb-true, le-ltb, cond-true, cond-false}
-use Rattle.timing.specs.Time.{Params, in_range, interval_at, opening, release}
+use Rattle.timing.specs.Time.{Params, opening, release}
 use Rattle.model.specs.Term.{Bytes, Term, Text, Gets, has, text, mac, cut, val}
-use Rattle.model.specs.Receiver.{Said, Message, Event, ticked, heard, disclosed, State, ours, after, is_in, of_interval, message_bytes}
+use Rattle.model.specs.Receiver.{Said, Message, Event, ticked, heard, disclosed, ours, after, is_in, of_interval, message_bytes}
 use Rattle.model.specs.Run.{key_term, key_bytes, tag_of, message_of, World, start, Later, here, onward, passes, says, discloses, brings, passed, uttered, told_key, brought, BringsKey, BringsTag, Within, MaySay}
 use Rattle.model.specs.Promise.{WasSaid}
-use Rattle.model.specs.Witness.{HeardThrough, SomeRun, OutAt, Exact}
+use Rattle.model.specs.Witness.{SomeRun, Exact}
 use Rattle.model.proofs.Terms.{chain_down}
 use Rattle.model.proofs.Intervals.{limits, opened}
 use Rattle.model.proofs.Buffers.{in_is}

@@ -1,14 +1,14 @@
 -- What becomes of receivers that are wrong in one way.
-use Rattle.std.proofs.Common.{◌≡◌, ℕ, ◌+◌, ◌-◌, ◌*◌, ◌<◌, ◌≤◌, true, List, [], ◌∷◌, ◌++◌, sym, refl, ap, subst, arith}
+use Rattle.std.proofs.Common.{◌≡◌, ℕ, List, [], ◌∷◌, ◌++◌, sym, refl, ap, subst, arith}
 use mathlib.Core.List.{Memᴰ}
 use Rattle.std.proofs.lemmas.Bool.{cond-true}
 use Rattle.timing.specs.Time.{Params, params}
-use Rattle.model.specs.Term.{Term, Text, Bytes, Gets, has, text, mac, cut, val, down}
-use Rattle.model.specs.Receiver.{Said, Message, Event, ticked, heard, disclosed, State, is_in, of_interval, message_bytes, judge_key, is_taken, right_up_to, taken, walked, later_than}
-use Rattle.model.specs.Run.{key_term, key_bytes, tag_of, message_of, Utterance, World, start, Later, here, onward, passes, says, discloses, brings, passed, uttered, told_key, brought, BringsKey, BringsTag, Within}
+use Rattle.model.specs.Term.{Text, Bytes, Gets, has, text, mac, cut, val, down}
+use Rattle.model.specs.Receiver.{Said, Event, ticked, heard, disclosed, State, is_in, of_interval, message_bytes, judge_key, is_taken, right_up_to, taken, walked, later_than}
+use Rattle.model.specs.Run.{key_term, key_bytes, tag_of, message_of, Utterance, World, start, Later, here, onward, passes, says, discloses, brings, passed, uttered, told_key, brought, BringsKey, Within}
 use Rattle.model.specs.Promise.{WasSaid}
-use Rattle.model.specs.Wrong.{without_clock_error, twice_the_error, keeps_nothing, takes_any_key, key_first}
-use Rattle.model.specs.Witness.{minutes, Fooled, ToyFooled, NeedsError, ErrorOnce, MustKeep, MustCompare, blanks, MessageFirst}
+use Rattle.model.specs.Wrong.{without_clock_error, twice_the_error, keeps_nothing, takes_any_key}
+use Rattle.model.specs.Witness.{minutes, ToyFooled, NeedsError, ErrorOnce, MustKeep, MustCompare, blanks, MessageFirst}
 use Rattle.model.proofs.Delivery.{delivery_has}
 use Rattle.model.proofs.Promises.{own_fits}
 use Rattle.model.proofs.Witness.{own_key, no_key, own_tag, hello, may_hello}

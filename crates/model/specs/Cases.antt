@@ -2,7 +2,7 @@
 use Rattle.std.specs.Prelude.{◌≡◌, ℕ, zero, suc, ◌<◌, ◌≤◌, List, [], ◌∷◌, ◌++◌, ◌≢◌}
 use Rattle.timing.specs.Time.{Params, params, interval_at, release}
 use Rattle.model.specs.Term.{MacFn}
-use Rattle.model.specs.Receiver.{Said, Message, Event, ticked, heard, disclosed, State, first_state, message_bytes, walked, tag_bytes, after, outcome, outcome_number, delivered, steps}
+use Rattle.model.specs.Receiver.{Said, Event, ticked, heard, disclosed, State, first_state, message_bytes, walked, tag_bytes, after, outcome, outcome_number, delivered, steps}
 
 abbrev pub hut : Params
 hut = params 60 1 5 4000

@@ -4,7 +4,7 @@ use mathlib.Core.List.{Memᴰ}
 use Rattle.timing.specs.Time.{Params, in_range, interval_at, opening, release}
 use Rattle.model.specs.Term.{Bytes, MacFn}
 use Rattle.model.specs.Receiver.{Said, Message, Event, ticked, heard, disclosed, Receiver, buffered, already, taken, has_room}
-use Rattle.model.specs.Run.{World, Site, Utterance, Later, start, message_of, key_bytes, Genuine, Brings}
+use Rattle.model.specs.Run.{World, Utterance, Later, start, message_of, key_bytes, Genuine, Brings}
 
 abbrev pub Once : {A : Type 0} → List A → Type 0
 Once [] = Unit {0}

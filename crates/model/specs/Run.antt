@@ -1,6 +1,5 @@
 -- A sender with a clock that is the time, any number of receivers with clocks of their own, and an adversary who has the air.
 use Rattle.std.specs.Prelude.{◌≡◌, ℕ, ◌+◌, ◌-◌, ◌<◌, ◌≤◌, cond, List, [], ◌∷◌, ◌++◌, length, ◌==◌, nat_lt}
-use mathlib.Core.List.{Memᴰ}
 use Rattle.timing.specs.Time.{Params, interval_at, release}
 use Rattle.model.specs.Term.{Term, Text, Gets, Bytes, val, Apart, chain_key, tag_term, down}
 use Rattle.model.specs.Receiver.{Said, Message, Event, ticked, heard, disclosed, Receiver, message_bytes, is_in}

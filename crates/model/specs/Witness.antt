@@ -3,7 +3,7 @@ use Rattle.std.specs.Prelude.{◌≡◌, ℕ, zero, suc, ◌<◌, ◌≤◌, tru
 use mathlib.Core.List.{Memᴰ}
 use Rattle.timing.specs.Time.{Params, params, in_range, may_be_out}
 use Rattle.model.specs.Term.{Bytes, Gets}
-use Rattle.model.specs.Receiver.{Said, Message, Event, heard, State, Receiver, ours, outcome_number}
+use Rattle.model.specs.Receiver.{Said, Message, heard, State, ours, outcome_number}
 use Rattle.model.specs.Run.{World, Later, start, Within, message_of, key_term, tag_of}
 use Rattle.model.specs.Promise.{Meets, WasSaid}
 use Rattle.model.specs.Wrong.{without_clock_error, twice_the_error, keeps_nothing, takes_any_key, key_first}

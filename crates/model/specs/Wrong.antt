@@ -1,9 +1,9 @@
 -- Receivers that are wrong, each in one way.
-use Rattle.std.specs.Prelude.{ℕ, ◌+◌, ◌-◌, ◌*◌, cond, not, ◌&&◌, List, [], nat_le}
+use Rattle.std.specs.Prelude.{ℕ, ◌-◌, ◌*◌, cond, not, List, [], nat_le}
 use Rattle.timing.specs.Time.{Params, params}
 use Rattle.timing.specs.declared.refusal.Refusal.TheVariants.{NoRoom, OutOfRange, KeyNotAfter}
 use Rattle.model.specs.Term.{MacFn}
-use Rattle.model.specs.Receiver.{Said, Event, ticked, heard, disclosed, Outcome, told, taken, refused, State, first_state, Receiver, ours, ticks, judge_tick, in_chain, judge, hears, judge_key, learns, delivers, is_taken, right_up_to, later_than, key_steps, steps}
+use Rattle.model.specs.Receiver.{Said, ticked, heard, disclosed, Outcome, taken, refused, State, first_state, Receiver, ours, ticks, judge_tick, in_chain, judge, hears, judge_key, learns, delivers, is_taken, right_up_to, later_than, steps}
 
 -- tests by its own clock, as if that were never wrong
 abbrev pub without_clock_error : Params → MacFn → Receiver

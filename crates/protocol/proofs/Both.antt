@@ -1,19 +1,19 @@
 -- Every sequence of calls is a run of the model.
-use Rattle.std.proofs.Common.{◌≡◌, ℕ, true, List, length, Some, None, Option, sym, refl, ap, ◌∙◌, subst}
+use Rattle.std.proofs.Common.{◌≡◌, ℕ, true, List, length, Some, None, Option, refl, ◌∙◌, subst}
 use Rattle.timing.specs.Time.{Params, in_range}
 use Rattle.sha256.specs.Hmac.{hmac}
 use Rattle.model.specs.Receiver as model
 use Rattle.model.specs.Run.{Later, here, onward, start, brings}
 use Rattle.model.proofs.Promises.{promise}
 use Rattle.keychain.specs.Chain.{drawing}
-use Rattle.sender.specs.State.{State, first_state}
+use Rattle.sender.specs.State.{State}
 use Rattle.sender_laws.specs.Run.{Event, tick, say, step}
 use Rattle.sender_laws.specs.Worlds.{Stands, after_event}
 use Rattle.sender_laws.proofs.Worlds.{lawful, stands_first, undisturbed}
 use Rattle.sender_laws.proofs.Cases.{fixed_tick, fixed_said}
 use Rattle.receiver.specs.Calls.{event_of}
 use Rattle.receiver.specs.Worlds.{Worlds, brought_by, CanBring}
-use Rattle.protocol.specs.Whole.{Runs, first, sender, receiver, Whole, PromiseOfWhole}
+use Rattle.protocol.specs.Whole.{Runs, first, sender, receiver, PromiseOfWhole}
 
 -- what holds of every sequence of calls
 record Ran (p : Params) (d : List ℕ) (s : State) (w : Worlds p) : Type 0 where

@@ -1,5 +1,5 @@
 -- Both ends: one sender, any number of receivers, and an adversary between them that brings any bytes it can make.
-use Rattle.std.specs.Prelude.{◌≡◌, ℕ, true, List, length, Some}
+use Rattle.std.specs.Prelude.{◌≡◌, ℕ, true, List, length}
 use Rattle.timing.specs.Time.{Params, in_range}
 use Rattle.sha256.specs.Hmac.{hmac}
 use Rattle.model.specs.Receiver.{ours}

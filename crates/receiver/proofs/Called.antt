@@ -1,7 +1,7 @@
 -- A message and then the key behind it.
-use Rattle.std.proofs.Common.{◌≡◌, ℕ, ◌≤◌, true, false, cond, ◌&&◌, eqb, leb, List, [], length, sym, refl, ap, ◌∙◌, subst}
+use Rattle.std.proofs.Common.{◌≡◌, ℕ, false, cond, List, length, ap, ◌∙◌}
 use Rattle.std.proofs.lemmas.Bool.{le-leb, eq-eqb, and_from, both_ways}
-use Rattle.timing.specs.Time.{Params, parameters_of}
+use Rattle.timing.specs.Time.{parameters_of}
 use Rattle.timing.specs.declared.parameters.Parameters.{Parameters}
 use Rattle.sha256.specs.Hmac.{hmac}
 use Rattle.model.specs.Receiver.{Said, Message, State, hears, learns, delivers, in_chain, walk_steps, key_steps}

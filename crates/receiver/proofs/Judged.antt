@@ -1,17 +1,10 @@
 -- What a message that is buffered, and a key that is taken, tell of the state.
-use Rattle.std.proofs.Common.{◌≡◌, ℕ, ◌+◌, ◌-◌, ◌<◌, ◌≤◌, Bool, true, false, cond, not, ◌&&◌, ltb, leb, List, [], ◌∷◌, ◌++◌, get_or, sym, refl, ap, ◌∙◌, arith}
-use Rattle.std.specs.Str.{bytes_eq}
-use Rattle.std.proofs.lemmas.Bool.{false≢true, and_parts, not-false, cond-true, cond_both, lt-ltb, le-leb, leb-true, ltb-false, leb-false}
-use Rattle.sha256.specs.Hmac.{hmac}
+use Rattle.std.proofs.Common.{◌≡◌, Bool, true, false, cond, not, ◌&&◌, leb, List, [], ◌∷◌, ◌++◌, sym, refl, ap, ◌∙◌}
+use Rattle.std.proofs.lemmas.Bool.{false≢true, not-false}
 use Rattle.timing.specs.Time.{Params, may_be_out, too_early}
 use Rattle.timing.specs.declared.refusal.Refusal.TheVariants as refusal
-use Rattle.model.specs.Receiver.{Message, Outcome, told, buffered, already, taken, refused, State, in_chain, is_in, has_room, judge, is_buffered, hears, is_taken, judge_walk, walk_steps, walked, judge_key, key_steps}
-use Rattle.keychain.specs.declared.key.Key.{Key}
-use Rattle.keychain.specs.Chain.{key_down, zeros, absent_key, Collected}
-use Rattle.buffer.specs.Buffers.{KeysOf}
-use Rattle.buffer.specs.declared.message.Buffered.{Buffered}
-use Rattle.buffer.specs.declared.room.Buffer.{Buffer}
-use Rattle.receiver.specs.State.{meant, Wants}
+use Rattle.model.specs.Receiver.{Message, Outcome, buffered, already, refused, State, in_chain, is_in, has_room, judge, is_buffered, hears, is_taken}
+use Rattle.receiver.specs.State.{meant}
 use Rattle.receiver.specs.declared.outcome.Outcome as code
 use Rattle.receiver.specs.declared.outcome.Outcome.TheVariants as variant
 

@@ -1,13 +1,10 @@
 -- From what a call leaves to the worlds that it stands for, and the promise over every sequence of calls.
-use Rattle.std.proofs.Common.{◌≡◌, ℕ, Bool, true, false, cond, eqb, ltb, List, [], ◌∷◌, ◌++◌, Some, None, Option, sym, refl, ap, ◌∙◌, subst, append-nil}
+use Rattle.std.proofs.Common.{◌≡◌, ℕ, true, false, cond, eqb, ltb, List, [], ◌∷◌, ◌++◌, Some, None, Option, sym, refl, ap, ◌∙◌, append-nil}
 use Rattle.std.proofs.lemmas.Bool.{cond_both, cond-true, eq-eqb}
-use Rattle.timing.specs.Time.{Params, in_range, parameters_of}
-use Rattle.timing.specs.declared.parameters.Parameters.{Parameters}
+use Rattle.timing.specs.Time.{Params, parameters_of}
 use Rattle.sha256.specs.Hmac.{hmac}
-use Rattle.model.specs.Term.{Bytes}
-use Rattle.model.specs.Receiver.{Said, Message, Event, ticked, heard, disclosed, State, ours, hears, learns, judge, is_buffered, judge_key, is_taken, later_than, ticks, after, delivered}
-use Rattle.model.specs.Run.{Site, World, Step, Later, here, onward, start, brings, brought, site_after, clock_after, put}
-use Rattle.model.specs.Promise.{KeptPromise}
+use Rattle.model.specs.Receiver.{Said, Message, Event, ticked, heard, disclosed, State, ours, hears, learns, judge, is_buffered, judge_key, is_taken, later_than, after}
+use Rattle.model.specs.Run.{Site, Later, here, onward, brings, brought, site_after, clock_after}
 use Rattle.model.proofs.Promises.{promise}
 use Rattle.keychain.specs.Chain.{drawing}
 use Rattle.receiver.specs.declared.state.Receiver.{Receiver}

@@ -3,7 +3,7 @@ use Rattle.std.specs.Prelude.{◌≡◌, ℕ, true, List, ◌++◌, Some, None, 
 use Rattle.timing.specs.Time.{Params, in_range}
 use Rattle.sha256.specs.Hmac.{hmac}
 use Rattle.model.specs.Term.{Bytes}
-use Rattle.model.specs.Receiver.{Said, Event, State, ours}
+use Rattle.model.specs.Receiver.{Said, Event, ours}
 use Rattle.model.specs.Run.{World, Step, Later, start, Brings, brought}
 use Rattle.model.specs.Promise.{KeptPromise}
 use Rattle.keychain.specs.Chain.{drawing}

@@ -1,10 +1,9 @@
 -- The first fault of a script.
-use Rattle.std.proofs.Common.{◌≡◌, ℕ, suc, ◌+◌, ◌<◌, Bool, true, false, cond, ◌⊎◌, List, [], ◌∷◌, length, get_or, take, Ok, Err, Result, sym, refl, ap, ◌∙◌, subst, inl, inr, ⊎_elim, arith}
+use Rattle.std.proofs.Common.{◌≡◌, ℕ, suc, ◌+◌, Bool, true, false, cond, ◌⊎◌, List, [], ◌∷◌, take, Ok, Err, Result, sym, refl, ap, ◌∙◌, inl, inr, ⊎_elim, arith}
 use Rattle.timing.specs.declared.refusal.Refusal.{Refusal}
 use Rattle.timing.specs.declared.refusal.Refusal.TheVariants.{Malformed}
 use Rattle.script.specs.Commands.{line_of}
 use Rattle.script.specs.Text.{words, lines_of}
-use Rattle.scenario.specs.declared.arrival.Arrival.{Arrival}
 use Rattle.scenario.specs.declared.error.Fault.{Fault}
 use Rattle.scenario.specs.Laws.{ran, AtLine, NoEnd, FaultIsFirst}
 use Rattle.scenario.specs.Plays.{fault_at, played}

@@ -1,6 +1,5 @@
 -- Scripts, one line at a time.
-use Rattle.std.proofs.Common.{◌≡◌, ℕ, ◌+◌, Bool, List, [], ◌∷◌, Ok, Err, Result, Vec, sym, refl, ap, ◌∙◌, subst}
-use Rattle.std.specs.declared.alloc.Global.{Global}
+use Rattle.std.proofs.Common.{◌≡◌, ℕ, ◌+◌, List, [], ◌∷◌, Ok, Err, Result, sym, refl, ap, ◌∙◌}
 use Rattle.timing.specs.declared.refusal.Refusal.{Refusal}
 use Rattle.scenario.specs.declared.arrival.Arrival.{Arrival}
 use Rattle.scenario.specs.declared.error.Error.{Error}

@@ -11,11 +11,10 @@ use Rattle.script.specs.Commands as order
 use Rattle.script.specs.Text.{words, lines_of}
 use Rattle.scenario.specs.declared.arrival.Arrival.{Arrival}
 use Rattle.scenario.specs.declared.error.Error.{Error}
-use Rattle.scenario.specs.declared.error.Fault.{Fault}
-use Rattle.scenario.specs.Laws.{Right, AllRight, JudgedBySettings}
+use Rattle.scenario.specs.Laws.{AllRight, JudgedBySettings}
 use Rattle.scenario.specs.Plays.{fault_at, played, playing, Plays}
 use Rattle.scenario.specs.Scenes.{at_zero, clock_answer, clock_after, arrivals}
-use Rattle.scenario.specs.States.{State, state, start, no_receivers, with_clocks, after_told, settled, gathered, told_all, told_one, messaged, finished, followed, obeyed, stepped}
+use Rattle.scenario.specs.States.{State, state, start, with_clocks, after_told, gathered, messaged, finished, followed, stepped}
 use Rattle.scenario.proofs.Lines.{onward, played_line, lines_end}
 
 -- before the settings there is nothing, and after them all is right by them

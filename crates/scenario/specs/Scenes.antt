@@ -1,5 +1,5 @@
 -- Clocks that are set, and messages that reach receivers.
-use Rattle.std.specs.Prelude.{ℕ, ◌+◌, ◌-◌, Bool, cond, ◌&&◌, List, [], ◌∷◌, length, set, replicate, Ok, Err, Result, nat_le, nat_lt, slice_index, slice_set}
+use Rattle.std.specs.Prelude.{ℕ, ◌+◌, ◌-◌, Bool, cond, ◌&&◌, List, [], ◌∷◌, length, replicate, Ok, Err, Result, nat_le, nat_lt, slice_index, slice_set}
 use Rattle.timing.specs.Judged.{judged}
 use Rattle.timing.specs.Time.{Params}
 use Rattle.timing.specs.declared.refusal.Refusal.{Refusal}

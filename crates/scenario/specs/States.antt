@@ -1,5 +1,5 @@
 -- What stands while a script is followed, and what an order makes of it.
-use Rattle.std.specs.Prelude.{ℕ, Bool, true, false, cond, not, ◌&&◌, ◌||◌, List, [], ◌++◌, length, is_some, Some, None, Ok, Err, vec_items, Option, Result, ◌==◌, nat_le}
+use Rattle.std.specs.Prelude.{ℕ, Bool, true, false, cond, ◌&&◌, List, [], ◌++◌, length, is_some, Some, None, Ok, Err, vec_items, Option, Result, ◌==◌, nat_le}
 use Rattle.std.specs.Option.{option_map}
 use Rattle.timing.specs.Clocks.{clocks_answer, clocks_after}
 use Rattle.timing.specs.Time.{Params, params, parameters_of, in_range}

@@ -1,5 +1,5 @@
 -- The numbers of a line, one word at a time.
-use Rattle.std.proofs.Common.{◌≡◌, ℕ, List, [], ◌∷◌, ◌++◌, Some, None, Ok, Err, Option, Result, sym, refl, ap, ◌∙◌, append_assoc, append-nil}
+use Rattle.std.proofs.Common.{◌≡◌, ℕ, List, [], ◌∷◌, ◌++◌, Some, None, Ok, Err, Result, sym, refl, ap, ◌∙◌, append_assoc, append-nil}
 use Rattle.timing.specs.declared.refusal.Refusal.{Refusal}
 use Rattle.timing.specs.declared.refusal.Refusal.TheVariants.{Malformed}
 use Rattle.script.specs.Text.{words, decimal, and_number, numbers}

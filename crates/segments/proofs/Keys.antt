@@ -2,7 +2,6 @@
 use Rattle.std.proofs.Common.{◌≡◌, ℕ, zero, suc, ◌+◌, ◌-◌, ◌*◌, ◌/◌, ◌<◌, ◌≤◌, ◌≢◌, List, ◌++◌, length, get_or, take, drop, set, sym, refl, ap, ◌∙◌, ⊎_elim, suc-add, zero-add, arith, length-drop, below_more}
 use Rattle.std.proofs.lemmas.List.{length-append, get_or_append_left, get_or-set_same, get_or-set_other, get_or-take, get_or-drop}
 use Rattle.std.proofs.lemmas.Bool.{cases_eq}
-use Rattle.sha256.specs.Hmac.{hmac}
 use Rattle.model.specs.Receiver.{walked}
 use Rattle.keychain.specs.Chain.{stepped, key_down, absent_key}
 use Rattle.keychain.specs.declared.key.Key.{Key}

@@ -1,11 +1,9 @@
-use Rattle.std.proofs.Common.{◌≡◌, ℕ, zero, suc, pred, ◌+◌, ◌-◌, ◌*◌, ◌/◌, ◌%◌, ◌<◌, ◌≤◌, min, Bool, true, false, cond, eqb, ltb, ◌⊎◌, List, [], ◌∷◌, ◌++◌, length, sym, refl, ap, ◌∙◌, inl, inr, ⊎_elim, add_assoc, zero-add, arith}
+use Rattle.std.proofs.Common.{◌≡◌, ℕ, zero, suc, ◌+◌, ◌-◌, ◌*◌, ◌<◌, ◌≤◌, Bool, true, false, cond, eqb, ltb, ◌⊎◌, List, [], ◌∷◌, ◌++◌, length, sym, refl, ap, ◌∙◌, inl, inr, ⊎_elim, add_assoc, zero-add, arith}
 use Rattle.std.proofs.lemmas.List.{length-append}
 use Rattle.std.proofs.lemmas.Bool.{cond_both, eqb-true, eqb-false, ne_eqb, eq-eqb}
 use Rattle.std.proofs.lemmas.Bool.Decides.{nat_tests}
-use Rattle.segments.specs.declared.parts.Segments.{Segments}
 use Rattle.segments.specs.Parts.{part_of, top_of}
-use Rattle.segments.specs.Held.{last_of, held, in_part, in_tail}
-use Rattle.segments.specs.Work.{below, part_work, tail_work, work, works, life, times, Rising}
+use Rattle.segments.specs.Work.{below, part_work, tail_work, work, works, times, Rising}
 use Rattle.segments.specs.Laws.{Few, Once, Enough}
 
 pub length_below : (n i : ℕ) → length (below n i) ≡ n

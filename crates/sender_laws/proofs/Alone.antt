@@ -1,17 +1,17 @@
 -- The keys that are sent by themselves, and the work.
-use Rattle.std.proofs.Common.{◌≡◌, ℕ, ◌+◌, ◌-◌, ◌<◌, ◌≤◌, min, Bool, true, false, cond, eqb, ltb, leb, ◌⊎◌, List, [], ◌∷◌, ◌++◌, sym, refl, ap, ◌∙◌, inl, inr, ⊎_elim, arith}
+use Rattle.std.proofs.Common.{◌≡◌, ℕ, ◌+◌, ◌<◌, ◌≤◌, true, false, ltb, leb, ◌⊎◌, List, [], ◌∷◌, ◌++◌, sym, refl, ap, ◌∙◌, inl, inr, ⊎_elim, arith}
 use mathlib.Core.List.{Memᴰ}
 use native.Mathlib.Nat.{zero-div}
-use Rattle.std.proofs.lemmas.Bool.{cases_lt, cases_eq, lt-ltb, le-ltb, lt-leb, cond-true, cond-false}
+use Rattle.std.proofs.lemmas.Bool.{lt-ltb, le-ltb, lt-leb, cond-true, cond-false}
 use Rattle.std.proofs.lemmas.Bool.Decides.{nat_tests as ways}
-use Rattle.timing.specs.Time.{Params, interval_at}
+use Rattle.timing.specs.Time.{interval_at}
 use Rattle.segments.specs.Parts.{part_of}
 use Rattle.segments.specs.Work.{works, Rising}
 use Rattle.segments.specs.Work.{work as partsWork}
 use Rattle.segments.proofs.Work as segments-work
-use Rattle.sender.specs.State.{State, first_state, interval, newest, work_at, advanced, due, alone, told_alone, shown_key, ticked, tick_answer, said, after_said}
-use Rattle.sender_laws.specs.Run.{Event, tick, say, step, worked, all_worked, told_by_tick, alone_in, all_alones, entered, all_entered, Ascending, ByItself, WorkedOnce}
-use Rattle.sender_laws.proofs.Cases.{tick_cases, say_cases, shown_cases, told_shown, alone_some, later, fixed_tick, fixed_said}
+use Rattle.sender.specs.State.{State, first_state, interval, newest, work_at, advanced, due, alone, told_alone, shown_key, said, after_said}
+use Rattle.sender_laws.specs.Run.{Event, tick, say, worked, all_worked, told_by_tick, alone_in, all_alones, entered, all_entered, Ascending, ByItself, WorkedOnce}
+use Rattle.sender_laws.proofs.Cases.{tick_cases, say_cases, shown_cases, told_shown, alone_some, later, fixed_said}
 
 ascending_from : (a b : ℕ) (xs : List ℕ) → a ≤ b → Ascending b xs → Ascending a xs
 ascending_from a b [] h u = tt

@@ -1,19 +1,17 @@
 -- A receiver that missed any number of intervals has the newest key again.
-use Rattle.std.proofs.Common.{◌≡◌, ℕ, ◌+◌, ◌-◌, ◌<◌, ◌≤◌, min, Bool, true, false, cond, not, ◌&&◌, eqb, ltb, leb, ◌⊎◌, List, [], ◌∷◌, ◌++◌, length, sym, refl, ap, ◌∙◌, inl, inr, ⊎_elim, arith}
+use Rattle.std.proofs.Common.{◌≡◌, ℕ, ◌+◌, ◌-◌, ◌<◌, ◌≤◌, Bool, true, false, cond, not, eqb, ltb, leb, ◌⊎◌, List, [], ◌∷◌, ◌++◌, length, sym, refl, ap, ◌∙◌, inl, inr, ⊎_elim, arith}
 use Rattle.std.specs.Str.{bytes_eq}
 use Rattle.std.proofs.lemmas.Slice.Eq.{bytes_eq-Decides}
-use Rattle.std.proofs.lemmas.Bool.{false≢true, cond_both, cond-true, cond-false, cases_lt, cases_eq, and_from, or_left, lt-ltb, le-ltb, le-leb, lt-leb, leb-true, ltb-false, eq-eqb, ne_eqb}
+use Rattle.std.proofs.lemmas.Bool.{false≢true, cond_both, cond-true, cond-false, cases_lt, cases_eq, and_from, or_left, lt-ltb, le-ltb, le-leb, lt-leb, ltb-false, ne_eqb}
 use Rattle.std.proofs.lemmas.Bool.Decides.{nat_tests as ways}
-use Rattle.timing.specs.Time.{Params}
 use Rattle.timing.specs.declared.refusal.Refusal.TheVariants.{OutOfRange, KeyNotAfter, KeyTooFar, KeyMisfit}
 use Rattle.sha256.specs.Hmac.{hmac}
 use Rattle.model.specs.Receiver as model
 use Rattle.keychain.specs.Chain.{key_down}
 use Rattle.segments.proofs.Keys.{key_from}
-use Rattle.turns.specs.declared.Turn.{Turn}
-use Rattle.turns.specs.Turns.{disclosed, afterwards}
+use Rattle.turns.specs.Turns.{disclosed}
 use Rattle.turns.specs.Laws.{learned, Caught}
-use Rattle.sender.specs.State.{State, interval, newest, key_of, advanced, due, alone, told_alone, ticked, said, after_said, may_not, key_shown, message_of}
+use Rattle.sender.specs.State.{State, interval, newest, key_of, advanced, due, alone, may_not, key_shown, message_of}
 use Rattle.sender_laws.specs.Run.{Event, tick, say, step, told_by_tick, told_by_said, tells}
 use Rattle.sender_laws.specs.Turned.{some, asks, all_asks}
 use Rattle.sender_laws.specs.Ends.{hears_tick, hears_spoken, hearing, Recovers, BroughtBack}

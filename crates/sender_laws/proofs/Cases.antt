@@ -1,6 +1,6 @@
 -- What a call comes to, case by case, and what of the state lasts.
-use Rattle.std.proofs.Common.{◌≡◌, ℕ, ◌+◌, ◌-◌, ◌*◌, ◌<◌, ◌≤◌, min, Bool, true, false, cond, eqb, ltb, leb, ◌⊎◌, List, length, sym, refl, ap, ◌∙◌, inl, inr, ⊎_elim, arith}
-use Rattle.std.proofs.lemmas.Bool.{cond_both, cases_lt, cases_Bool, cases_eq, eqb-true, eq-eqb, ne_eqb, cond-true, cond-false}
+use Rattle.std.proofs.Common.{◌≡◌, ℕ, ◌*◌, ◌<◌, ◌≤◌, true, false, cond, eqb, ltb, leb, List, length, sym, refl, ⊎_elim, arith}
+use Rattle.std.proofs.lemmas.Bool.{cond_both, cases_lt, cases_Bool, cases_eq, eq-eqb, ne_eqb, cond-true, cond-false}
 use Rattle.std.proofs.lemmas.Bool.Decides.{nat_tests as ways}
 use Rattle.timing.specs.Time.{interval_at}
 use Rattle.timing.specs.declared.refusal.Refusal.TheVariants.{Malformed, OutOfRange}

@@ -1,5 +1,5 @@
 -- What a sender sends is heard.
-use Rattle.std.proofs.Common.{◌≡◌, ℕ, zero, suc, ◌+◌, ◌-◌, ◌*◌, ◌^◌, ◌<◌, ◌≤◌, min, Bool, true, false, cond, not, ◌&&◌, eqb, ltb, leb, ◌⊎◌, List, [], length, take, replicate, Some, None, sym, refl, ap, ◌∙◌, inl, inr, ⊎_elim, mul_comm, add-mul, mul-le-mul, arith}
+use Rattle.std.proofs.Common.{◌≡◌, ℕ, zero, suc, ◌+◌, ◌-◌, ◌*◌, ◌^◌, ◌<◌, ◌≤◌, Bool, true, false, cond, not, ◌&&◌, eqb, ltb, leb, List, length, Some, sym, refl, ap, ◌∙◌, mul_comm, add-mul, mul-le-mul, arith}
 use Rattle.std.proofs.lemmas.List.{length-take-le}
 use Rattle.std.proofs.lemmas.Bool.{cond_both, and_from, lt-ltb, le-leb}
 use Rattle.std.proofs.lemmas.Bool.Decides.{nat_tests as ways}
@@ -14,12 +14,12 @@ use Rattle.model.specs.Receiver.{walked}
 use Rattle.model.specs.Run.{Within}
 use Rattle.model.proofs.Intervals.{limits, in_time, not_early, not_opened}
 use Rattle.keychain.specs.Chain.{key_down, tagged, zeros}
-use Rattle.wire.specs.Fits.{SaidFits, KeyFits, PacketFits, SetupFits}
+use Rattle.wire.specs.Fits.{KeyFits, PacketFits, SetupFits}
 use Rattle.wire.specs.Formats.{Key, key_encoded, message_encoded, message_event, key_event}
 use Rattle.wire.proofs.Reading.{message_event_lem, key_event_lem}
 use Rattle.turns.specs.Turns.{disclosed}
-use Rattle.sender.specs.State.{State, interval, newest, key_of, advanced, alone, told_alone, shown_key, saying_of, key_shown, may_not, message_of, nothing, told, setup_for}
-use Rattle.sender_laws.specs.Run.{Event, tick, say}
+use Rattle.sender.specs.State.{State, interval, newest, key_of, advanced, alone, saying_of, key_shown, may_not, message_of, setup_for}
+use Rattle.sender_laws.specs.Run.{tick, say}
 use Rattle.sender_laws.specs.Ends.{bytes_of_tick, bytes_of_spoken, Welcome, Heard, BothEnds}
 use Rattle.sender_laws.proofs.Cases.{tick_cases, say_cases, shown_cases, alone_most, disclosed_most}
 

@@ -1,14 +1,13 @@
 -- No index of an interval is used twice, and no key is disclosed early.
-use Rattle.std.proofs.Common.{◌≡◌, ℕ, ◌+◌, ◌<◌, ◌≤◌, ◌⊎◌, List, [], ◌∷◌, ◌++◌, sym, refl, ap, ◌∙◌, inl, inr, ⊎_elim, arith}
+use Rattle.std.proofs.Common.{◌≡◌, ℕ, ◌<◌, ◌≤◌, ◌⊎◌, List, [], ◌∷◌, ◌++◌, refl, inl, inr, ⊎_elim, arith}
 use mathlib.Core.List.Memᴰ
 use mathlib.Core.List.{Memᴰ}
 use Rattle.std.proofs.lemmas.Bool.{cases_eq}
-use Rattle.timing.specs.Time.{interval_at, release}
+use Rattle.timing.specs.Time.{release}
 use Rattle.model.specs.Receiver.{Said}
-use Rattle.turns.specs.Turns.{disclosed}
-use Rattle.sender.specs.State.{State, interval, newest, advanced, alone, saying_of, ticked, said, after_said}
-use Rattle.sender_laws.specs.Run.{Event, tick, say, said_by, everything_said, Before, Ordered, NoTwice, told_by_tick, told_by_said, NoneEarly}
-use Rattle.sender_laws.proofs.Cases.{tick_cases, say_cases, told_shown, disclosed_most, alone_most, later, index_same, index_anew, fixed_tick}
+use Rattle.sender.specs.State.{State, interval, newest, advanced, alone, ticked, after_said}
+use Rattle.sender_laws.specs.Run.{Event, tick, say, said_by, everything_said, Ordered, NoTwice, told_by_tick, told_by_said, NoneEarly}
+use Rattle.sender_laws.proofs.Cases.{tick_cases, say_cases, told_shown, disclosed_most, alone_most, later, index_same, fixed_tick}
 
 -- said in this state or later
 abbrev FromOn : State → Said → Type 0

@@ -1,17 +1,17 @@
 -- The disclosures of a run are in turn.
-use Rattle.std.proofs.Common.{◌≡◌, ℕ, zero, suc, ◌+◌, ◌-◌, ◌*◌, ◌<◌, ◌≤◌, min, Bool, true, false, cond, eqb, ltb, leb, ◌⊎◌, List, [], ◌∷◌, ◌++◌, map, length, take, sym, refl, ap, ◌∙◌, inl, inr, ⊎_elim, arith}
+use Rattle.std.proofs.Common.{◌≡◌, ℕ, zero, suc, ◌*◌, ◌<◌, ◌≤◌, eqb, leb, ◌⊎◌, List, [], ◌∷◌, length, take, sym, refl, ap, ◌∙◌, inl, inr, ⊎_elim, arith}
 use mathlib.Core.List.{Memᴰ}
 use Rattle.std.proofs.lemmas.List.{length-take-le}
 use Rattle.std.proofs.lemmas.Bool.{cases_lt, cases_Bool, cases_eq, ne_eqb, lt-ltb, le-ltb, leb-false, cond-true, cond-false}
 use Rattle.turns.specs.declared.Turn.{Turn}
 use Rattle.turns.specs.Turns.{disclosed, afterwards, disclosures}
-use Rattle.turns.specs.Laws.{Caught, Rising, OneNewest}
+use Rattle.turns.specs.Laws.{Rising}
 use Rattle.turns.proofs.Again.{catches_up, rising_from}
 use Rattle.turns.proofs.Laws.{all, one_newest}
-use Rattle.sender.specs.State.{State, interval, newest, advanced, due, alone, shown_key, ticked, said, may_not}
+use Rattle.sender.specs.State.{State, interval, newest, advanced, due, alone, may_not}
 use Rattle.sender.proofs.Ticks.{at_back, at_none, at_due, too_long, out_of_range, at_sent}
 use Rattle.sender_laws.specs.Run.{Event, tick, say, step, told_by_tick, told_by_said, tells}
-use Rattle.sender_laws.specs.Turned.{some, asks, all_asks, all_answers, InTurn, OutOfTurn, OneOfTwo, AllWithin, HeardAgain}
+use Rattle.sender_laws.specs.Turned.{some, asks, all_asks, InTurn, OutOfTurn, OneOfTwo, AllWithin, HeardAgain}
 use Rattle.sender_laws.proofs.Cases.{told_shown, later, fixed_tick, fixed_said, Fixed}
 
 -- what an event does to the turn: nothing, and what it discloses is the newest or none

@@ -1,22 +1,20 @@
 -- Every call of a sender is by the model's steps.
-use Rattle.std.proofs.Common.{◌≡◌, ℕ, ◌+◌, ◌-◌, ◌<◌, ◌≤◌, min, Bool, true, false, cond, eqb, ◌⊎◌, List, [], ◌∷◌, length, sym, refl, ap, ◌∙◌, inl, inr, ⊎_elim, arith}
+use Rattle.std.proofs.Common.{◌≡◌, ℕ, ◌<◌, ◌≤◌, false, cond, eqb, List, [], ◌∷◌, length, sym, refl, ap, ◌∙◌, inl, inr, ⊎_elim, arith}
 use mathlib.Core.List.Memᴰ
 use mathlib.Core.List.{Memᴰ}
 use Rattle.std.proofs.lemmas.Bool.{cond_both, cases_eq, eqb-false}
 use Rattle.std.proofs.lemmas.Bool.Decides.{nat_tests as ways}
-use Rattle.sha256.specs.Hmac.{hmac}
-use Rattle.timing.specs.Time.{Params, in_range, interval_at, release}
+use Rattle.timing.specs.Time.{Params, interval_at, release}
 use Rattle.model.specs.Term.{Term}
-use Rattle.model.specs.Receiver.{Said, ours}
-use Rattle.model.specs.Run.{Utterance, MaySay, Later, here, onward, passes, says, discloses, key_term, key_bytes, tag_of, passed, uttered, told_key}
+use Rattle.model.specs.Receiver.{Said}
+use Rattle.model.specs.Run.{Utterance, MaySay, here, onward, passes, says, discloses, passed, uttered, told_key}
 use Rattle.model.proofs.Intervals.{limits, interval_mono}
-use Rattle.keychain.specs.Chain.{drawing}
 use Rattle.keychain.proofs.Chains.{chain_terms}
 use Rattle.turns.specs.Turns.{disclosed}
-use Rattle.sender.specs.State.{State, first_state, interval, newest, key_of, advanced, alone, told_alone, shown_key, saying_of, key_shown, may_not, after_said, message_of, nothing, told}
-use Rattle.sender_laws.specs.Run.{Event, tick, say, step, Before}
+use Rattle.sender.specs.State.{State, interval, newest, advanced, alone, told_alone, shown_key, saying_of, may_not, after_said}
+use Rattle.sender_laws.specs.Run.{tick, say, Before}
 use Rattle.sender_laws.specs.Worlds.{Worlds, OnAir, key_out, tag_said, Stands, after_tick, after_spoken, Moves, Lawful, StandsFirst, Undisturbed, TickGenuine, SpokenGenuine, Genuine}
-use Rattle.sender_laws.proofs.Cases.{tick_cases, say_cases, shown_cases, alone_most, disclosed_most, later, index_same, index_anew}
+use Rattle.sender_laws.proofs.Cases.{tick_cases, say_cases, shown_cases, alone_most, disclosed_most, later, index_same}
 
 air_later : (p : Params) (t v : ℕ) (us : List Utterance) → 0 < p.ticks → t ≤ v → {x : Term} → OnAir p t us x → OnAir p v us x
 air_later p t v us pos h (key_out i l o) = key_out i l (⊎_elim (λ z. inl z) (λ r. inr (omega (arith, r, interval_mono p t v pos h))) o)

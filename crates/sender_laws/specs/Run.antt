@@ -1,5 +1,5 @@
 -- Runs of a sender, and what is promised of them.
-use Rattle.std.specs.Prelude.{◌≡◌, ℕ, ◌+◌, ◌<◌, ◌≤◌, true, cond, ◌⊎◌, List, [], ◌∷◌, ◌++◌, nat_lt}
+use Rattle.std.specs.Prelude.{◌≡◌, ℕ, ◌+◌, ◌<◌, ◌≤◌, cond, ◌⊎◌, List, [], ◌∷◌, ◌++◌, nat_lt}
 use mathlib.Core.List.{Memᴰ}
 use Rattle.timing.specs.Time.{Params, interval_at, release}
 use Rattle.model.specs.Receiver.{Said}

@@ -1,5 +1,5 @@
 -- The disclosures of a run that are in turn, those with messages and those by themselves up to the last interval, are one sequence of turns.
-use Rattle.std.specs.Prelude.{◌≡◌, ℕ, ◌*◌, ◌<◌, ◌≤◌, cond, ◌⊎◌, List, [], ◌∷◌, ◌++◌, map, length, take, ◌==◌, nat_le, nat_lt}
+use Rattle.std.specs.Prelude.{◌≡◌, ℕ, ◌*◌, ◌<◌, ◌≤◌, cond, List, [], ◌∷◌, ◌++◌, map, length, take, ◌==◌, nat_le, nat_lt}
 use mathlib.Core.List.{Memᴰ}
 use Rattle.turns.specs.Turns.{disclosures}
 use Rattle.turns.specs.Laws.{Caught, OneNewest}

@@ -1,5 +1,5 @@
 -- What a sender's calls are in the model: steps of its sender, from world to world.
-use Rattle.std.specs.Prelude.{◌≡◌, ℕ, ◌<◌, ◌≤◌, true, cond, ◌⊎◌, List, [], ◌∷◌, length, ◌==◌}
+use Rattle.std.specs.Prelude.{◌≡◌, ℕ, ◌≤◌, true, cond, ◌⊎◌, List, [], length, ◌==◌}
 use mathlib.Core.List.{Memᴰ}
 use Rattle.sha256.specs.Hmac.{hmac}
 use Rattle.timing.specs.Time.{Params, in_range, interval_at, release}
@@ -7,7 +7,7 @@ use Rattle.model.specs.Term.{Term}
 use Rattle.model.specs.Receiver as model
 use Rattle.model.specs.Run.{World, Utterance, MaySay, Later, start, key_term, key_bytes, tag_of, message_of, passed, uttered, told_key, brought}
 use Rattle.keychain.specs.Chain.{drawing, zeros}
-use Rattle.sender.specs.State.{State, first_state, saying_of, ticked, tick_answer, Ticked, back, nothing, told, said, say_answer, Spoken, refused, sent}
+use Rattle.sender.specs.State.{State, first_state, saying_of, tick_answer, Ticked, back, nothing, told, say_answer, Spoken, refused, sent}
 use Rattle.sender_laws.specs.Run.{Event, tick, say, step, Before}
 
 -- the model's worlds, with our receivers

@@ -1,7 +1,7 @@
 -- One more step of each recursion of the specification, at `n + 1`.
 use Rattle.std.proofs.Common.{◌≡◌, ℕ, suc, ◌+◌, ◌-◌, ◌*◌, ◌/◌, ◌%◌, ◌^◌, ◌<◌, ◌≤◌, List, [], ◌∷◌, ◌++◌, length, get_or, take, drop, replicate, refl, add-one, arith}
 use native.Mathlib.Nat.{sub-zero}
-use Rattle.std.proofs.lemmas.List.{get_or-take, length-drop, take-append-le, drop-append-le, drop-drop, take-take, take_all, take_rest, take_at, drop_at, append_assoc, length-append, length-replicate}
+use Rattle.std.proofs.lemmas.List.{length-drop, take-append-le, drop-append-le, drop-drop, take-take, take_all, take_rest, take_at, drop_at, append_assoc, length-append, length-replicate}
 use Rattle.sha256.specs.Sha256.{words, word_at, expanded, next_word, rounds, step, constants, absorb, compress, blocks, digest, state_bytes, padding, long_bytes, initial_hash}
 
 pub words_more : (n : ℕ) (bs : List ℕ) → words (n + 1) bs ≡ words n bs ++ word_at bs n ∷ []

@@ -1,5 +1,5 @@
 -- The schedule sixteen words at a time.
-use Rattle.std.proofs.Common.{◌≡◌, ℕ, zero, suc, ◌+◌, ◌-◌, ◌<◌, ◌≤◌, List, [], ◌∷◌, ◌++◌, length, get_or, drop, sym, refl, ◌∙◌, add-zero, add-suc, add-one, arith, drop-cons}
+use Rattle.std.proofs.Common.{◌≡◌, ℕ, zero, suc, ◌+◌, ◌-◌, ◌<◌, ◌≤◌, List, [], ◌∷◌, length, get_or, drop, refl, add-zero, add-suc, arith, drop-cons}
 use Rattle.std.proofs.lemmas.List.{length-append, get_or_append_left, get_or-drop, drop-append-le, drop-drop, drop_all}
 use Rattle.sha256.specs.declared.Working.{Working}
 use Rattle.sha256.specs.Sha256.{constants, words, next_word, expanded, schedule, step, rounds}

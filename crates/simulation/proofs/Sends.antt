@@ -1,19 +1,15 @@
 -- What goes on the air, and what is brought.
-use Rattle.std.proofs.Common.{◌≡◌, ℕ, ◌+◌, ◌-◌, ◌<◌, ◌≤◌, List, [], ◌∷◌, ◌++◌, length, get_or, take, drop, IfOk, Some, None, Ok, Err, vec_items, Option, Result, Vec, sym, refl, ap, ◌∙◌, subst, append_assoc, append-nil, arith}
+use Rattle.std.proofs.Common.{◌≡◌, ℕ, ◌-◌, List, [], ◌∷◌, ◌++◌, length, take, drop, IfOk, Ok, Err, vec_items, Result, Vec, refl, ap, ◌∙◌, subst, arith}
 use native.Mathlib.Nat.{sub-zero}
-use Rattle.std.proofs.lemmas.List.{drop_more, drop_all}
 use Rattle.std.specs.declared.alloc.Global.{Global}
 use Rattle.timing.specs.declared.refusal.Refusal.{Refusal}
 use Rattle.model.specs.Receiver.{Said}
-use Rattle.wire.specs.Formats.{message_encoded, air_event}
+use Rattle.wire.specs.Formats.{message_encoded}
 use Rattle.orders.specs.declared.command.Whom.{Whom}
 use Rattle.receiver.specs.declared.state.Receiver.{Receiver}
 use Rattle.sender.specs.State.{Spoken, refused, sent, sent_length, sent_over}
 use Rattle.simulation.specs.Casts.{bytes_of, say_sends}
 use Rattle.hearings.specs.Hearings.{Heard, Brings}
-use Rattle.hearings.specs.declared.event.Saying.{Saying}
-use Rattle.hearings.specs.Saids.{saying_of, sayings_of}
-use Rattle.hearings.specs.Sents.{saying_in, said_in, said_on}
 use Rattle.hearings.proofs.Among.{map_both}
 
 pub sent_more : (new all : List (Vec ℕ Global)) (v : Vec ℕ Global) (b : List ℕ) → new ≡ all ++ v ∷ [] → vec_items v ≡ b → bytes_of new ≡ bytes_of all ++ b ∷ []

@@ -7,7 +7,6 @@ use Rattle.script.specs.declared.stop.Stop.{Stop}
 use Rattle.script.specs.declared.stop.Stop.TheVariants as stop
 use Rattle.scenario.specs.declared.error.Error.{Error}
 use Rattle.scenario.specs.declared.error.Error.TheVariants as error
-use Rattle.scenario.specs.declared.error.Fault.{Fault}
 use Rattle.orders.specs.Orders.{line_of}
 
 -- a line that is a command in its form, empty or a comment

@@ -1,5 +1,5 @@
 -- Intervals of ticks, when a key may be out, and the limits of the settings.
-use Rattle.std.specs.Prelude.{ℕ, suc, ◌+◌, ◌-◌, ◌*◌, ◌/◌, Bool, ◌&&◌, nat_le, nat_lt}
+use Rattle.std.specs.Prelude.{ℕ, ◌+◌, ◌-◌, ◌*◌, ◌/◌, Bool, ◌&&◌, nat_le, nat_lt}
 use Rattle.timing.specs.declared.parameters.Parameters.{Parameters}
 
 -- ticks: the seconds of an interval; delay: the key of interval i is disclosed in interval i + delay + 1 at the earliest;

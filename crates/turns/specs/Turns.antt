@@ -1,5 +1,5 @@
 -- Which key is disclosed next. The turns go: the newest, a multiple of 1,024, the newest, the next multiple, and so on.
-use Rattle.std.specs.Prelude.{ℕ, zero, suc, ◌+◌, ◌*◌, ◌<◌, ◌≤◌, Bool, true, false, cond, List, [], ◌∷◌, nat_le, nat_lt}
+use Rattle.std.specs.Prelude.{ℕ, ◌+◌, ◌*◌, true, false, cond, List, [], ◌∷◌, nat_le, nat_lt}
 use Rattle.turns.specs.declared.Turn.{Turn}
 
 abbrev pub first_turn : Turn

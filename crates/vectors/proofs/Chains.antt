@@ -1,5 +1,5 @@
 -- One more digest of the random test, counted down.
-use Rattle.std.proofs.Common.{◌≡◌, ℕ, suc, ◌+◌, ◌-◌, ◌<◌, List, ◌++◌, refl, arith}
+use Rattle.std.proofs.Common.{◌≡◌, ℕ, suc, ◌+◌, ◌-◌, ◌<◌, List, ◌++◌, arith}
 use Rattle.sha256.specs.Sha256.{digest}
 use Rattle.vectors.specs.Chain.{chained}
 

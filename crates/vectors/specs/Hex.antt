@@ -1,5 +1,5 @@
 -- Hexadecimal digits, as the codes of their characters.
-use Rattle.std.specs.Prelude.{ℕ, zero, suc, ◌+◌, ◌-◌, ◌*◌, Bool, cond, List, [], ◌∷◌, ◌++◌, Some, None, Option, nat_le, slice_index}
+use Rattle.std.specs.Prelude.{ℕ, zero, suc, ◌+◌, ◌-◌, ◌*◌, cond, List, [], ◌∷◌, ◌++◌, Some, None, Option, nat_le, slice_index}
 
 -- x where a ≤ b ≤ z, else y
 abbrev pub within : ℕ → ℕ → ℕ → Option ℕ → Option ℕ → Option ℕ

@@ -1,12 +1,12 @@
-use Rattle.std.proofs.Common.{◌≡◌, ℕ, ◌+◌, ◌<◌, ◌≤◌, true, false, cond, eqb, ltb, List, [], ◌∷◌, ◌++◌, length, get_or, take, sym, refl, ap, ◌∙◌, arith}
-use Rattle.std.proofs.lemmas.List.{append-nil, append_assoc, get_or_default}
+use Rattle.std.proofs.Common.{◌≡◌, ℕ, ◌+◌, ◌<◌, ◌≤◌, length, get_or, take, ap, ◌∙◌, arith}
+use Rattle.std.proofs.lemmas.List.{append-nil, get_or_default}
 use Rattle.buffer.specs.declared.message.Buffered.{Buffered}
-use Rattle.std.proofs.lemmas.Bool.{lt-ltb, eq-eqb, ne_eqb, cond-true, cond-false, and_from, and_left, and_right}
+use Rattle.std.proofs.lemmas.Bool.{lt-ltb, eq-eqb, ne_eqb, cond-true, and_left}
 use Rattle.sha256.specs.Hmac.{hmac}
-use Rattle.model.specs.Receiver.{of_interval, right_of}
+use Rattle.model.specs.Receiver.{of_interval}
 use Rattle.keychain.specs.Chain.{absent_key}
-use Rattle.buffer.specs.Buffers.{messages_in, messages_of, as_message, as_said, saids_in, saids_of}
-use Rattle.buffer.proofs.Lists.{messages_none, of_none, count_more, saids_push}
+use Rattle.buffer.specs.Buffers.{messages_in, messages_of, saids_of}
+use Rattle.buffer.proofs.Lists.{messages_none, of_none, count_more}
 use Rattle.buffer.proofs.Order.{right_none, of_first, said_yes, said_no, said_not}
 use Rattle.buffer.proofs.deliver_interval.Goals as goal
 use Rattle.buffer.proofs.deliver_interval.Goals.{then-buffer-b+then-is_right, then-buffer-b+else-is_right, else-buffer-b}

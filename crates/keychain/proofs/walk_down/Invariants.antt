@@ -1,4 +1,4 @@
-use Rattle.std.proofs.Common.{◌≡◌, ℕ, ◌-◌, ◌≤◌}
+use Rattle.std.proofs.Common.{◌≡◌, ◌-◌, ◌≤◌}
 use Rattle.keychain.specs.Chain.{key_down, Collected}
 use Rattle.keychain.proofs.walk_down.Given as goal
 

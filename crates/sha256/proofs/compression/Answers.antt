@@ -1,6 +1,5 @@
 use Rattle.std.proofs.Common.{◌≡◌, ◌+◌, ◌*◌, refl, arith}
 use Rattle.sha256.specs.Sha256.{rounds, expanded, compress, sums}
-use Rattle.sha256.specs.Window.{At}
 use Rattle.sha256.proofs.compression.Goals as goal
 
 pub loop-j-init : goal.loop-j-init

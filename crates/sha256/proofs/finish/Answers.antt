@@ -1,5 +1,5 @@
 use Rattle.std.proofs.Common.{◌≡◌, ◌+◌, ◌*◌, ◌/◌, ◌<◌, ◌≤◌, length, refl, ap, ◌∙◌, arith}
-use Rattle.sha256.specs.Sha256.{blocks, padding, state_bytes}
+use Rattle.sha256.specs.Sha256.{blocks, state_bytes}
 use Rattle.sha256.proofs.Steps.{absorb-none, absorb-more, absorb-last, padding-low}
 use Rattle.sha256.proofs.finish.Goals as goal
 

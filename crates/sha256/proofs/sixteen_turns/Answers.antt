@@ -1,4 +1,4 @@
-use Rattle.std.proofs.Common.{◌+◌, ◌<◌, arith}
+use Rattle.std.proofs.Common.{◌+◌, arith}
 use Rattle.sha256.proofs.Windows.{at_more}
 use Rattle.sha256.proofs.sixteen_turns.Goals as goal
 

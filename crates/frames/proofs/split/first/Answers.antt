@@ -1,4 +1,4 @@
-use Rattle.std.proofs.Common.{◌≡◌, ℕ, ◌≤◌, List, length, take, drop, ap, ◌∙◌, arith, ltb-false}
+use Rattle.std.proofs.Common.{ℕ, ◌≤◌, List, length, take, drop, ap, ◌∙◌, arith, ltb-false}
 use Rattle.frames.proofs.Reading.{frame_read, behind}
 use Rattle.frames.proofs.split.first.Goals as goal
 

@@ -1,4 +1,4 @@
-use Rattle.std.proofs.Common.{◌≡◌, ◌<◌, length, is_ok, ap, ◌∙◌, arith}
+use Rattle.std.proofs.Common.{◌<◌, length, is_ok, ap, ◌∙◌, arith}
 use Rattle.std.proofs.ResultArms.{chosen}
 use Rattle.buffer.specs.Buffers.{messages_in, saids_in}
 use Rattle.hearings.specs.Saids.{deliveries_of, marked}

@@ -1,4 +1,4 @@
-use Rattle.std.proofs.Common.{◌≡◌, sym, refl, ap, ◌∙◌}
+use Rattle.std.proofs.Common.{sym, refl, ap, ◌∙◌}
 use Rattle.hearings.specs.Saids.{saying_of, same_said}
 use Rattle.hearings.proofs.Among.{here, not_here, nowhere}
 use Rattle.hearings.proofs.said.was_said.Goals as goal

@@ -1,4 +1,4 @@
-use Rattle.std.proofs.Common.{◌≡◌, sym, ◌∙◌}
+use Rattle.std.proofs.Common.{sym, ◌∙◌}
 use Rattle.orders.proofs.Heads.{word_here, word_later, word_last, word_nowhere}
 use Rattle.orders.proofs.line.first_word.Goals as goal
 

@@ -1,4 +1,4 @@
-use Rattle.std.proofs.Common.{◌≡◌, eqb, get_or, sym, refl, ap}
+use Rattle.std.proofs.Common.{eqb, get_or, sym, ap}
 use Rattle.std.proofs.lemmas.List.{nil_from_length}
 use Rattle.std.proofs.lemmas.Bool.{eqb-true}
 use Rattle.orders.proofs.line.is_comment.Goals as goal

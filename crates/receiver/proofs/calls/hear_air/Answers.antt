@@ -1,4 +1,4 @@
-use Rattle.std.proofs.Common.{◌≡◌, sym, refl, ap, ◌∙◌, arith}
+use Rattle.std.proofs.Common.{refl, ap, ◌∙◌, arith}
 use Rattle.buffer.specs.Buffers.{saids_in}
 use Rattle.buffer.proofs.Lists.{saids_none}
 use Rattle.receiver.proofs.calls.hear_air.Goals as goal

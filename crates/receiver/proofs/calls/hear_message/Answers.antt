@@ -1,7 +1,6 @@
 use Rattle.std.proofs.Common.{◌≡◌, ap, ◌∙◌}
 use Rattle.model.specs.Receiver.{Message, hears, judge}
 use Rattle.wire.specs.Values.{packet_of}
-use Rattle.buffer.specs.Buffers.{as_message, saids_of}
 use Rattle.receiver.specs.declared.state.Receiver.{Receiver}
 use Rattle.receiver.specs.State.{meant, params_of, state_of}
 use Rattle.receiver.proofs.Called.{fits, state_then, delivered_then, work_then}

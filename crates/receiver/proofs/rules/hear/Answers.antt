@@ -1,4 +1,4 @@
-use Rattle.std.proofs.Common.{◌≡◌, true, ltb, length, sym, refl, ap, ◌∙◌}
+use Rattle.std.proofs.Common.{◌≡◌, true, ltb, length, sym, refl, ◌∙◌}
 use Rattle.std.proofs.lemmas.Bool.{cond-true, and_parts}
 use Rattle.model.specs.Receiver.{buffered, judge}
 use Rattle.buffer.specs.Buffers.{as_message, messages_of}

@@ -1,4 +1,4 @@
-use Rattle.std.proofs.Common.{◌≡◌, false, sym, refl, ap, ◌∙◌, arith}
+use Rattle.std.proofs.Common.{◌≡◌, false, refl, ap, ◌∙◌, arith}
 use Rattle.sha256.specs.Hmac.{hmac}
 use Rattle.model.specs.Receiver.{is_taken, judge_key}
 use Rattle.buffer.specs.Buffers.{saids_in}

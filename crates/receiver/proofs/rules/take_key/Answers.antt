@@ -1,4 +1,4 @@
-use Rattle.std.proofs.Common.{◌≡◌, List, sym, refl, ap, ◌∙◌, arith}
+use Rattle.std.proofs.Common.{List, refl, ap, arith}
 use Rattle.model.specs.Receiver.{Message}
 use Rattle.buffer.specs.Buffers.{messages_of}
 use Rattle.buffer.proofs.Lists.{count_is}

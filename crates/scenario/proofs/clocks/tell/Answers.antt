@@ -1,4 +1,4 @@
-use Rattle.std.proofs.Common.{◌≡◌, sym, ap, ◌∙◌, arith}
+use Rattle.std.proofs.Common.{ap, ◌∙◌, arith}
 use Rattle.std.proofs.lemmas.List.{take_at}
 use Rattle.timing.specs.Clocks.{clocks_answer, clocks_after}
 use Rattle.scenario.proofs.clocks.tell.Goals as goal

@@ -1,4 +1,4 @@
-use Rattle.std.proofs.Common.{◌≡◌, sym, refl, ◌∙◌, arith, false-eqb}
+use Rattle.std.proofs.Common.{sym, refl, ◌∙◌, arith, false-eqb}
 use Rattle.script.proofs.Words.{word_here, word_later, word_last, word_nowhere}
 use Rattle.script.proofs.text.next_word.Goals as goal
 

@@ -1,4 +1,4 @@
-use Rattle.std.proofs.Common.{◌≡◌, sym, ◌∙◌}
+use Rattle.std.proofs.Common.{sym, ◌∙◌}
 use Rattle.script.proofs.Words.{digit_more, digit_bad, digit_all, decimal_some}
 use Rattle.script.proofs.text.number.Goals as goal
 

@@ -1,4 +1,4 @@
-use Rattle.std.proofs.Common.{◌≡◌, is_ok, sym, ap, ◌∙◌}
+use Rattle.std.proofs.Common.{is_ok, sym, ap, ◌∙◌}
 use Rattle.std.proofs.ResultArms.{chosen}
 use Rattle.script.specs.Text.{words, numbers}
 use Rattle.script.proofs.Numbers.{ahead, ahead_more, ahead_bad, ahead_all}

@@ -1,4 +1,4 @@
-use Rattle.std.proofs.Common.{◌≡◌, ◌<◌, ◌≤◌, length, refl, arith}
+use Rattle.std.proofs.Common.{◌<◌, length, refl, arith}
 use Rattle.segments.proofs.Keys.{descent_one, descent_more, descent_fewer}
 use Rattle.segments.proofs.descent.descend.Goals as goal
 

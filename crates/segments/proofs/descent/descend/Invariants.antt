@@ -1,4 +1,3 @@
-use Rattle.std.proofs.Common.{◌≡◌, length}
 use Rattle.segments.specs.Parts.{at, Descent}
 use Rattle.segments.proofs.descent.descend.Given as goal
 

@@ -1,6 +1,6 @@
-use Rattle.std.proofs.Common.{◌≡◌, ◌+◌, ◌-◌, ◌*◌, ◌<◌, ◌≤◌, length, get_or, take, drop, set, ap, arith, rules}
+use Rattle.std.proofs.Common.{◌≡◌, ◌-◌, ◌*◌, ◌<◌, length, get_or, take, drop, set, arith, rules}
 use Rattle.keychain.specs.Chain.{absent_key}
-use Rattle.segments.specs.Parts.{top_of, at, Descent}
+use Rattle.segments.specs.Parts.{top_of, at}
 use Rattle.segments.proofs.Keys.{lent_long, lent_keys, descent_fewer}
 use Rattle.segments.proofs.walking.fill_part.Goals as goal
 

@@ -1,4 +1,4 @@
-use Rattle.std.proofs.Common.{◌≡◌, ◌-◌, length, replicate, sym, ap, ◌∙◌, arith}
+use Rattle.std.proofs.Common.{◌≡◌, ◌-◌, length, replicate, ap, ◌∙◌, arith}
 use Rattle.model.specs.Receiver.{message_bytes}
 use Rattle.keychain.specs.Chain.{tagged}
 use Rattle.wire.specs.Values.{said_of}

@@ -1,5 +1,5 @@
-use Rattle.std.proofs.Common.{◌≡◌, true, length, sym, refl, ap, ◌∙◌, arith, rules}
-use Rattle.timing.specs.Time.{parameters_of, in_range}
+use Rattle.std.proofs.Common.{◌≡◌, length, ap, ◌∙◌, rules}
+use Rattle.timing.specs.Time.{parameters_of}
 use Rattle.wire.specs.Setup.{settings_answer}
 use Rattle.wire.proofs.Setup.{settings_back}
 use Rattle.sender.specs.State.{setup_for}

@@ -1,4 +1,4 @@
-use Rattle.std.proofs.Common.{◌≡◌, sym, ◌∙◌, arith}
+use Rattle.std.proofs.Common.{sym, ◌∙◌, arith}
 use Rattle.timing.proofs.Backward.{back_here, back_later, back_none}
 use Rattle.timing.proofs.clocks.any_back.Goals as goal
 

@@ -1,5 +1,5 @@
-use Rattle.std.proofs.Common.{◌≡◌, ◌+◌, ◌*◌, ◌/◌, length, get_or, Some, vec_items, sym, ◌∙◌, arith}
-use Rattle.vectors.specs.Hex.{hex_value, spelled}
+use Rattle.std.proofs.Common.{◌≡◌, ◌/◌, length, vec_items, sym, ◌∙◌, arith}
+use Rattle.vectors.specs.Hex.{spelled}
 use Rattle.vectors.proofs.Spelling.{spelled_more}
 use Rattle.vectors.proofs.hex.decode.Goals as goal
 

@@ -1,4 +1,4 @@
-use Rattle.std.proofs.Common.{◌≡◌, ℕ, ◌+◌, ◌-◌, List, [], ◌∷◌, ◌++◌, take, sym, refl, ap, ◌∙◌}
+use Rattle.std.proofs.Common.{◌≡◌, ℕ, ◌+◌, ◌-◌, List, ◌++◌, take, ap, ◌∙◌}
 use native.Mathlib.Nat.{sub-zero}
 use Rattle.model.specs.Receiver.{message_bytes}
 use Rattle.keychain.specs.Chain.{tagged}

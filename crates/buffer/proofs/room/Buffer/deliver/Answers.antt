@@ -1,8 +1,8 @@
-use Rattle.std.proofs.Common.{◌≡◌, ℕ, ◌+◌, ◌-◌, ◌<◌, ◌≤◌, List, [], ◌∷◌, ◌++◌, length, take, sym, refl, ap, ◌∙◌, arith}
+use Rattle.std.proofs.Common.{◌≡◌, ℕ, ◌+◌, ◌-◌, ◌≤◌, ◌++◌, take, sym, ap, ◌∙◌, arith}
 use Rattle.std.proofs.lemmas.List.{length-take-le}
 use Rattle.sha256.specs.Hmac.{hmac}
 use Rattle.model.specs.Receiver.{walked, right_up_to, right_of}
-use Rattle.buffer.specs.Buffers.{messages_in, messages_of, saids_in, saids_of, up_to}
+use Rattle.buffer.specs.Buffers.{messages_of, saids_in, saids_of}
 use Rattle.buffer.proofs.Lists.{saids_none, messages_length, count_is}
 use Rattle.buffer.proofs.Order.{upto_more, upto_few, delivery_none, delivery_more}
 use Rattle.keychain.proofs.Chains.{down_none}

@@ -1,7 +1,7 @@
-use Rattle.std.proofs.Common.{◌≡◌, ℕ, ◌+◌, ◌-◌, ◌≤◌, List, ◌++◌, take}
+use Rattle.std.proofs.Common.{◌≡◌, ℕ, ◌+◌, ◌-◌, ◌≤◌, List}
 use Rattle.sha256.specs.Hmac.{hmac}
-use Rattle.model.specs.Receiver.{of_interval, right_of, right_up_to, walked}
-use Rattle.buffer.specs.Buffers.{messages_in, messages_of, saids_of, KeysOf, up_to}
+use Rattle.model.specs.Receiver.{right_up_to, walked}
+use Rattle.buffer.specs.Buffers.{messages_of, saids_of, KeysOf, up_to}
 use Rattle.buffer.proofs.room.Buffer.deliver.Given as goal
 
 abbrev pub invariant-loop-i : goal.invariant-loop-i

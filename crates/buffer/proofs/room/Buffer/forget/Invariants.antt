@@ -1,4 +1,4 @@
-use Rattle.std.proofs.Common.{◌≡◌, ◌≤◌, ltb, take}
+use Rattle.std.proofs.Common.{◌≡◌, ltb}
 use Rattle.std.proofs.lemmas.List.Filters.{FiltersInPlace}
 use Rattle.buffer.specs.declared.message.Buffered.{Buffered}
 use Rattle.buffer.proofs.room.Buffer.forget.Given as goal

@@ -1,6 +1,5 @@
-use Rattle.std.proofs.Common.{◌≡◌, ◌<◌, List, length, sym, ap, ◌∙◌, arith}
-use Rattle.model.specs.Receiver.{Message, is_in}
-use Rattle.buffer.specs.Buffers.{as_message, messages_in}
+use Rattle.std.proofs.Common.{◌≡◌, ◌<◌, length, arith}
+use Rattle.buffer.specs.Buffers.{as_message}
 use Rattle.buffer.proofs.Lists.{messages_none, in_none, found_yes, found_no}
 use Rattle.buffer.proofs.room.Buffer.has.Goals as goal
 use Rattle.buffer.proofs.room.Buffer.has.Goals.{then-same, else-same}

@@ -1,6 +1,6 @@
 use Rattle.std.proofs.Common.{◌≡◌, ◌≤◌, take}
 use Rattle.model.specs.Receiver.{of_interval}
-use Rattle.buffer.specs.Buffers.{as_message, messages_in}
+use Rattle.buffer.specs.Buffers.{messages_in}
 use Rattle.buffer.proofs.room.Buffer.of_interval.Given as goal
 
 abbrev pub invariant-loop-i : goal.invariant-loop-i

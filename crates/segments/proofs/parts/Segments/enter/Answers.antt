@@ -1,4 +1,4 @@
-use Rattle.std.proofs.Common.{◌≡◌, ◌+◌, ◌-◌, ◌*◌, sym, refl, ◌∙◌, arith, rules}
+use Rattle.std.proofs.Common.{◌≡◌, sym, refl, arith, rules}
 use Rattle.segments.specs.Parts.{part_of}
 use Rattle.segments.specs.Held.{last_of}
 use Rattle.segments.proofs.Work.{length_work, length_none}

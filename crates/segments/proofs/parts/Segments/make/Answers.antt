@@ -1,4 +1,4 @@
-use Rattle.std.proofs.Common.{◌≡◌, ◌+◌, ◌-◌, ◌*◌, ◌/◌, ◌<◌, ◌≤◌, sym, refl, ap, ◌∙◌, arith, rules}
+use Rattle.std.proofs.Common.{sym, refl, ap, ◌∙◌, arith, rules}
 use Rattle.segments.specs.Parts.{key_at, top_of, drawn_in}
 use Rattle.segments.proofs.Keys.{drawn_in_lem}
 use Rattle.segments.proofs.parts.Segments.make.Goals as goal

@@ -1,4 +1,4 @@
-use Rattle.std.proofs.Common.{◌≡◌, ◌≤◌, min, length, sym, refl, ap, ◌∙◌, arith}
+use Rattle.std.proofs.Common.{◌≡◌, ◌≤◌, min, length, sym, ap, ◌∙◌, arith}
 use Rattle.timing.specs.Time.{interval_at, parameters_of}
 use Rattle.model.specs.Receiver.{message_bytes}
 use Rattle.keychain.specs.Chain.{tagged}

@@ -1,4 +1,4 @@
-use Rattle.std.proofs.Common.{◌≡◌, Ok, sym, refl, ap, ◌∙◌, arith}
+use Rattle.std.proofs.Common.{Ok, sym, ap, ◌∙◌, arith}
 use Rattle.sender.specs.Of.{state_of}
 use Rattle.sender.specs.State.{sent_length, sent_over}
 use Rattle.sender.proofs.Ticks.{too_long, out_of_range, at_sent, after_said_lem}

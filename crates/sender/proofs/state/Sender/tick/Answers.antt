@@ -1,4 +1,4 @@
-use Rattle.std.proofs.Common.{◌≡◌, true, false, Some, Ok, sym, refl, ap, ◌∙◌, arith}
+use Rattle.std.proofs.Common.{◌≡◌, true, false, Some, Ok, sym, ap, ◌∙◌, arith}
 use Rattle.sender.specs.Of.{state_of}
 use Rattle.sender.specs.State.{advanced, due, alone, told_alone, key_of, tick_bytes}
 use Rattle.sender.proofs.Ticks.{at_back, at_none, at_due, none_shown, some_shown}
