@@ -1,7 +1,7 @@
 -- A script followed line by line.
 use Rattle.std.proofs.Common.{◌≡◌, ℕ, ◌+◌, Bool, true, false, List, [], ◌∷◌, ◌++◌, length, is_ok, Ok, Err, Result, sym, refl, ap, ◌∙◌, subst, append_assoc, length-append}
 use Rattle.std.proofs.ByRecursion.{All-push}
-use Rattle.std.specs.List.{AllByRecursion as All}
+use Rattle.std.specs.List.{AllByRecursion}
 use Rattle.timing.specs.declared.refusal.Refusal.{Refusal}
 use Rattle.script.specs.Text.{lines_of}
 use Rattle.scenario.specs.declared.error.Error.{Error}
@@ -12,7 +12,7 @@ use Rattle.simulation.specs.Plays.{Reads, Why, Fails, Ends, FirstFault, Refuses,
 pub record Done (script rest : List ℕ) (line : ℕ) : Type 0 where
   pub before : List (List ℕ)
   pub counted : length before ≡ line
-  pub read : All Reads before
+  pub read : AllByRecursion Reads before
   pub whole : lines_of script ≡ before ++ lines_of rest
 
 pub done_none : (s : List ℕ) → Done s s 0
@@ -47,7 +47,7 @@ no_reason t e r x f = let z : ◌≡◌ {A = Bool} true false = sym r ∙ ap is_
 
 pub ends : {V : Type 0} (s rest : List ℕ) (n : ℕ) (r : Result V Error) → Done s rest n → lines_of rest ≡ rest ∷ [] → Reads rest → Ends (n + 1) r → Plays r s
 ends s rest n (Ok v) d h x p =
-    let P : List (List ℕ) → Type 0 = λ l. All Reads l in
+    let P : List (List ℕ) → Type 0 = λ l. AllByRecursion Reads l in
     subst P (sym (d.whole ∙ ap (λ l. d.before ++ l) h)) (All-push Reads d.before rest d.read x)
 ends s rest n (Err (error.Faulty f)) d h x p = fault s rest rest [] n f.line f.refusal d h p (no_reason rest f.refusal x)
 ends s rest n (Err error.NoMemory) d h x p = tt

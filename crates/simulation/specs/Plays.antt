@@ -1,6 +1,6 @@
 -- Which scripts are played, and where the fault of another is.
 use Rattle.std.specs.Prelude.{◌≡◌, ℕ, ◌+◌, true, List, ◌∷◌, ◌++◌, length, is_ok, Ok, Err, Result}
-use Rattle.std.specs.List.{AllByRecursion as All}
+use Rattle.std.specs.List.{AllByRecursion}
 use Rattle.timing.specs.declared.refusal.Refusal.{Refusal}
 use Rattle.script.specs.Text.{lines_of}
 use Rattle.script.specs.declared.stop.Stop.{Stop}
@@ -46,7 +46,7 @@ pub record FirstFault (lines : List (List ℕ)) (line : ℕ) (refusal : Refusal)
   pub behind : List (List ℕ)
   pub whole : lines ≡ before ++ here ∷ behind
   pub counted : line ≡ length before + 1
-  pub read : All Reads before
+  pub read : AllByRecursion Reads before
   pub why : Why here refusal
 
 abbrev pub Refuses : Error → (script : List ℕ) → Type 0
@@ -55,5 +55,5 @@ Refuses error.NoMemory s = Unit {0}
 
 -- of a script that is played every line reads
 abbrev pub Plays : {V : Type 0} → Result V Error → (script : List ℕ) → Type 0
-Plays (Ok v) s = All Reads (lines_of s)
+Plays (Ok v) s = AllByRecursion Reads (lines_of s)
 Plays (Err e) s = Refuses e s

@@ -1,13 +1,13 @@
 // Plays a sender by a script, and writes its settings and what goes on the air.
 #![tactic(auto)]
 
-mod script;
+mod deeds;
 
 use anyhow::anyhow;
+use deeds::{Deed, Script};
 use frames::head;
 use frames::head::{Head, Source};
 use scenario::error::Error;
-use script::{Deed, Script};
 use sender::state::Sender;
 use sender_laws::calls;
 use std::io::{Read, Write};
@@ -85,7 +85,7 @@ fn run(rt: &HostRuntime) -> anyhow::Result<()> {
     let date = date_of(rt)?;
     let mut bytes = Vec::new(rt.alloc());
     let _ = rt.stdin().read_to_end(&mut bytes)?;
-    match script::read(rt.alloc(), bytes.as_slice()) {
+    match deeds::read(rt.alloc(), bytes.as_slice()) {
         Ok(script) => play(rt, script, date),
         Err(Error::Faulty(f)) => {
             let line = f.line;
