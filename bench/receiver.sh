@@ -4,7 +4,7 @@ set -eu
 cd "$(dirname "$0")/.."
 out=target/bench
 mkdir -p $out
-rt staticlib receiver_c >$out/receiver.log 2>&1 || { tail -5 $out/receiver.log; exit 1; }
+tools/build.sh receiver_c
 gcc -O3 -Wall -Wextra bench/receiver.c bench/sha256_loop.c target/staticlib/libreceiver_c.a \
-    "$(dirname "$(dirname "$(rt doc)")")/lib/librattle_c.a" -o $out/receiver
+    "$(dirname "$(rt doc)")/c/libos_c.a" "$(dirname "$(rt doc)")/c/liblibc_c.a" -o $out/receiver
 $out/receiver

@@ -11,12 +11,12 @@ if ! printf '#include <openssl/evp.h>\n' | gcc -E -x c - >/dev/null 2>&1; then
     echo "bench: OpenSSL's headers are missing: apt-get install libssl-dev" >&2
     exit 2
 fi
-rt staticlib sha256_c >$out/staticlib.log 2>&1 || { tail -5 $out/staticlib.log; exit 1; }
+tools/build.sh sha256_c
 gcc -O3 -Wall -Wextra -c bench/sha256_loop.c -o $out/sha256_loop.o
 gcc -O3 -Wall -Wextra -c bench/sha256_unrolled.c -o $out/sha256_unrolled.o
 rustc --edition 2024 -C opt-level=3 -C panic=abort bench/sha256_portable.rs -o $out/libsha256_portable.a
 gcc -O3 -Wall -Wextra bench/bench.c $out/sha256_loop.o $out/sha256_unrolled.o target/staticlib/libsha256_c.a \
-    "$(dirname "$(dirname "$(rt doc)")")/lib/librattle_c.a" $out/libsha256_portable.a -lcrypto -o $out/bench
+    "$(dirname "$(rt doc)")/c/libos_c.a" "$(dirname "$(rt doc)")/c/liblibc_c.a" $out/libsha256_portable.a -lcrypto -o $out/bench
 grep -m1 'model name' /proc/cpuinfo || true
 rt version
 gcc --version | head -1

@@ -9,10 +9,9 @@ size=${1:-120}
 seed=${2:-$(date +%s)}
 out=target/tests
 mkdir -p $out
-rt staticlib receiver_c >$out/build.log 2>&1 || { tail -5 $out/build.log; exit 1; }
-rt check speaker listener >$out/build.log 2>&1 || { tail -5 $out/build.log; exit 1; }
+tools/build.sh receiver_c speaker listener
 rustc -O --edition 2024 -D warnings tests/src/main.rs -o $out/compare \
-    -L native=target/staticlib -L native="$(dirname "$(dirname "$(rt doc)")")/lib"
+    -L native=target/staticlib -L native="$(dirname "$(rt doc)")/c"
 $out/compare "$seed" "$size"
 $out/compare "$seed" 500 plants
 echo "tests: nothing differs, and every plant was found"

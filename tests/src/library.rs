@@ -3,7 +3,7 @@
 use crate::wire::Delivery;
 use std::ffi::c_void;
 
-#[link(name = "rattle_c", kind = "static")]
+#[link(name = "os_c", kind = "static")]
 unsafe extern "C" {}
 
 #[link(name = "receiver_c", kind = "static")]
