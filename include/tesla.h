@@ -1,5 +1,5 @@
 /* A receiver of authenticated broadcasts, over memory that the caller owns.
-   Link with libreceiver_c.a (rt staticlib receiver_c) and the toolchain's librattle_c.a. */
+   Link with libreceiver_c.a (tools/build.sh receiver_c) and the toolchain's c/libos_c.a and c/liblibc_c.a. */
 #ifndef TESLA_H
 #define TESLA_H
 

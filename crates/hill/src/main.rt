@@ -47,13 +47,13 @@ fn run(rt: &HostRuntime) -> anyhow::Result<()> {
     }
     if words.peek().is_none() {
         if !play_input(rt)? && !keep_going {
-            return Err(anyhow!("a script was not played"));
+            return Err(anyhow!("\"a script was not played\""));
         }
         return Ok(());
     }
     for name in words {
         if !play_file(rt, name.as_str())? && !keep_going {
-            return Err(anyhow!("a script was not played"));
+            return Err(anyhow!("\"a script was not played\""));
         }
     }
     Ok(())

@@ -62,7 +62,7 @@ fn hear(r: &mut Receiver, source: Source, bytes: &[u8], out: &mut Buffer) -> u8 
 // A frame at fault ends the input; all before it stands.
 fn fault(rt: &HostRuntime, n: u64, why: &str) -> anyhow::Result<()> {
     eprintln!(rt; "frame {n}: refused 1: {why}")?;
-    Err(anyhow!("the input was not read to its end"))
+    Err(anyhow!("\"the input was not read to its end\""))
 }
 
 // The head of the next frame; none at the end of the input.
@@ -113,7 +113,7 @@ fn run(rt: &HostRuntime) -> anyhow::Result<()> {
         Err(e) => {
             let number = e.number();
             eprintln!(rt; "settings: refused {number}")?;
-            return Err(anyhow!("no settings"));
+            return Err(anyhow!("\"no settings\""));
         }
     };
     let mut r = Receiver::new(s);

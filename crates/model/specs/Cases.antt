@@ -51,7 +51,7 @@ unfoldable pub quietly : ℕ → List Result
 quietly zero = []
 quietly (suc n) = quiet ∷ quietly n
 
--- of a chain by its key 3; a made_up key; a wrong tag
+-- of a chain by its key 3; a made-up key; a wrong tag
 abbrev pub rows : MacFn → (key3 made_up wrong : List ℕ) → List Row
 rows m k3 k t =
     let k1 = walked m 2 k3 in
@@ -69,7 +69,7 @@ rows m k3 k t =
     } ∷
     -- D: a wrong tag is kept, and not believed
     record { events = ticked 100 ∷ hear 1 0 t ∷ ticked 120 ∷ disclosed 1 k1 ∷ []; come_to = quiet ∷ quiet ∷ quiet ∷ record { number = 0; delivered = []; steps = 1 } ∷ [] } ∷
-    -- E: made_up keys
+    -- E: made-up keys
     record { events = disclosed 2000 k ∷ []; come_to = refusal 8 ∷ [] } ∷
     record { events = disclosed 900 k ∷ []; come_to = record { number = 9; delivered = []; steps = 900 } ∷ [] } ∷
     -- F: of 17 messages of an interval the last finds no room
@@ -78,7 +78,7 @@ rows m k3 k t =
     record { events = ticked 100 ∷ hear 3 0 t ∷ []; come_to = quiet ∷ refusal 5 ∷ [] } ∷
     []
 
--- the key of interval 1 may be disclosed at 120 and not before; and all rows hold, whatever HMAC is, if the made_up key doesn't fit and the wrong tag isn't the right one
+-- the key of interval 1 may be disclosed at 120 and not before; and all rows hold, whatever HMAC is, if the made-up key doesn't fit and the wrong tag isn't the right one
 pub record Worked (m : MacFn) (k3 k t : List ℕ) : Type 0 where
   pub not_before : (tick : ℕ) → tick < 120 → interval_at hut tick < release hut 1
   pub then_may : release hut 1 ≤ interval_at hut 120

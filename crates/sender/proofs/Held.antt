@@ -32,6 +32,10 @@ either_held c i n j pos at e some h =
     (λ (z : (k : ℕ) × ((j ≡ 1024 * k) × (j ≤ n))). rw z.1.0 (all.2 z.0 (omega (arith, z.1.0)) (omega (arith, z.1.0, z.1.1))))
     h
 
+-- the key of the interval itself
+pub own_held : (c : Segments) (i : ℕ) → 0 < i → i ≤ last_of c → c.part ≡ part_of (last_of c) i → held c i ≡ true
+own_held c i pos h at = let e : min i (last_of c) ≡ i = omega arith in rw e at (enough c i pos at).0
+
 -- with a message
 pub told_held : (c : Segments) (i n j : ℕ) (t : Turn) → 0 < i → c.part ≡ part_of (last_of c) i → n ≡ min (i - (c.parameters.delay + 1)) (last_of c) → (j ≡ 0 → ⊥) → j ≡ disclosed t n → held c j ≡ true
 told_held c i n j t pos at e some is = either_held c i n j pos at e some (rw is (disclosed_either t n))

@@ -6,7 +6,7 @@ use Rattle.std.proofs.lemmas.Bool.Decides.{nat_tests}
 use Rattle.timing.specs.declared.refusal.Refusal.{Refusal}
 use Rattle.timing.specs.declared.refusal.Refusal.TheVariants.{Malformed, OutOfRange}
 use Rattle.model.specs.Receiver.{message_bytes}
-use Rattle.keychain.specs.Chain.{tagged, zeros}
+use Rattle.keychain.specs.Chain.{tagged}
 use Rattle.wire.specs.Bytes.{over}
 use Rattle.wire.specs.Formats.{packet, key_encoded}
 use Rattle.turns.specs.declared.Turn.{Turn}
@@ -56,11 +56,8 @@ front n w old b e l = rw e (take_at w (drop (length w) old) n (sym l))
 pub lies_in_range : (s : State) (i : ℕ) → i ≡ min (interval s) 65535 → may_not s ≡ false → s.numbers.last ≤ 16384 → i ≡ interval s
 lies_in_range s i e m h = grind (arith, nat_tests)
 
-pub no_key_shown : (s : State) (j : ℕ) (key : List ℕ) → j ≡ 0 → key ≡ zeros → key ≡ key_shown s j
-no_key_shown s j key e k = rw (eq-eqb j 0 e) k
-
-pub key_shown_lem : (s : State) (j : ℕ) (key : List ℕ) → (j ≡ 0 → ⊥) → key ≡ key_of s j → key ≡ key_shown s j
-key_shown_lem s j key ne k = rw (ne_eqb j 0 ne) k
+pub lies_in_chain : (s : State) → may_not s ≡ false → interval s ≤ s.numbers.last
+lies_in_chain s m = grind (arith, nat_tests)
 
 pub message_is : (s : State) (text tag key : List ℕ) (i j : ℕ) → i ≡ interval s → j ≡ disclosed s.turn (newest s) → tag ≡ tagged (key_of s i) (message_bytes (record { interval = i; index = s.index; text = text })) → key ≡ key_shown s j →
     packet (record { interval = i; index = s.index; text = text }) tag (record { interval = j; key = key }) ≡ message_of s text

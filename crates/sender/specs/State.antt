@@ -14,7 +14,7 @@ use Rattle.turns.specs.declared.Turn.{Turn}
 use Rattle.turns.specs.Turns.{disclosed, afterwards, first_turn}
 
 -- drawn: the key of the last interval; index: that of the next message;
--- toldIn: the last interval in which a key was disclosed by itself, 0 for none
+-- told_in: the last interval in which a key was disclosed by itself, 0 for none
 pub record State : Type 0 where
   pub numbers : Params
   pub drawn : List ℕ

@@ -1,9 +1,9 @@
 // The sender's calls: what it is after each, and the bytes that it sends.
-ghost use Rattle.std.specs.Prelude.{◌≡◌, ℕ, ◌+◌, ◌≤◌, min, Bool, true, false, List, length, MatchResult};
+ghost use Rattle.std.specs.Prelude.{◌≡◌, ℕ, ◌+◌, ◌≤◌, min, Bool, true, false, List, length, if◌then◌else◌, MatchResult, ◌≢◌, nat_eq};
 ghost use Rattle.timing.specs.Time.{params, parameters_of, in_range, interval_at};
 ghost use Rattle.timing.specs.declared.refusal.Refusal.TheVariants.{BadSettings};
 ghost use Rattle.model.specs.Receiver.{message_bytes};
-ghost use Rattle.keychain.specs.Chain.{tagged};
+ghost use Rattle.keychain.specs.Chain.{tagged, zeros};
 ghost use Rattle.wire.specs.Bytes.{over};
 ghost use Rattle.wire.specs.Formats.{message_encoded};
 ghost use Rattle.wire.specs.Setup.{settings_encoded};
@@ -56,6 +56,17 @@ fn held_key(chain: &Segments, i: u16) -> Key
         Some(key) => key,
         None => unreachable(),
     }
+}
+
+// The key that stands behind a message: zeros for none.
+fn shown_key(chain: &Segments, i: u16) -> Key
+    requires { (i ≢ 0) → held chain.now i ≡ true }
+    ensures { result.bytes ≡ (if nat_eq i 0 then zeros else key_at (last_of chain.now) (drawn_of chain.now) i) }
+{
+    if i == 0 {
+        return Key { bytes: [0; 32] };
+    }
+    held_key(chain, i)
 }
 
 // The tag of what is said, under its interval's key.
@@ -120,11 +131,25 @@ impl Sender {
         self.chain.enter(interval_of(p, t))
     }
 
+    // The interval of the clock; all far ones are one.
+    fn current(&self) -> u16
+        ensures { result ≡ min (interval (state_of self.now)) 65535 }
+    {
+        interval_of(self.chain.parameters(), self.clock)
+    }
+
+    // The interval of the newest key that may be disclosed now, 0 for none.
+    fn newest(&self) -> u16
+        ensures { result ≡ newest (state_of self.now) }
+    {
+        newest_in(self.chain.parameters(), self.current())
+    }
+
     fn is_due(&self) -> bool
         ensures { result ≡ due (state_of self.now) }
     {
         let p = self.chain.parameters();
-        let i = interval_of(p, self.clock);
+        let i = self.current();
         i != self.told_in && i <= p.last + p.delay as u16 + 1
     }
 
@@ -134,11 +159,9 @@ impl Sender {
         ensures after { state_of self.new ≡ told_alone (state_of self.old) }
         ensures told { result ≡ alone (state_of self.old) }
     {
-        let p = self.chain.parameters();
-        let i = interval_of(p, self.clock);
-        let newest = newest_in(p, i);
-        self.told_in = i;
-        if i > p.last {
+        let newest = self.newest();
+        self.told_in = self.current();
+        if self.told_in > self.chain.parameters().last {
             return newest;
         }
         let (j, turn) = self.turn.next(newest);
@@ -172,26 +195,21 @@ impl Sender {
 
     // Writes the message that is next, and gives its length and the turn after it.
     fn message(&self, text: &[u8], out: &mut [u8; 256]) -> (usize, Turn)
-        requires text_len_bound { length text.now ≤ 200 }
-        requires self_value { may_not (state_of self.now) ≡ false }
+        requires short_text { length text.now ≤ 200 }
+        requires allowed { may_not (state_of self.now) ≡ false }
         ensures length { result.0 ≡ length (message_encoded (message_of (state_of self.now) text.now)) }
         ensures memory { out.new ≡ over (message_encoded (message_of (state_of self.now) text.now)) out.old }
         ensures turned { result.1 ≡ afterwards self.now.turn (newest (state_of self.now)) }
     {
-        let p = self.chain.parameters();
-        let i = interval_of(p, self.clock);
-        let (interval, turn) = self.turn.next(newest_in(p, i));
+        let i = self.current();
+        let (interval, turn) = self.turn.next(self.newest());
         let said = Said {
             interval: i,
             index: self.index,
             text,
         };
         let tag = tag_of(held_key(&self.chain, i), said);
-        let key = if interval == 0 {
-            Key { bytes: [0; 32] }
-        } else {
-            held_key(&self.chain, interval)
-        };
+        let key = shown_key(&self.chain, interval);
         let disclosed = DisclosedKey {
             interval,
             key: &key.bytes,
@@ -205,8 +223,7 @@ impl Sender {
     fn may_not(&self) -> bool
         ensures { result ≡ may_not (state_of self.now) }
     {
-        let p = self.chain.parameters();
-        interval_of(p, self.clock) > p.last || self.index > 63
+        self.current() > self.chain.parameters().last || self.index > 63
     }
 
     // Says a text in the interval of the clock: the message at the front of the memory, and how many bytes it has.

@@ -7,7 +7,7 @@ ghost use Rattle.sha256.specs.Laws.{Laws};
 ghost use Rattle.sha256.specs.Keyed.{Keyed};
 ghost use Rattle.sha256.specs.Window.{slid, Turned, At};
 ghost use Rattle.sha256.specs.Hmac.{hmac, key_block, xor_pad};
-ghost use Rattle.sha256.specs.Sha256.{bsig0, bsig1, ssig0, ssig1, ch, maj, constants, initial_hash, words, expanded, schedule, step, rounds, sums, compress, absorb, padding, state_bytes, digest, blocks, written};
+ghost use Rattle.sha256.specs.Sha256.{bsig0, bsig1, ssig0, ssig1, ch, maj, constants, initial_hash, words, expanded, schedule, step, rounds, sums, compress, absorb, padding, word_bytes, state_bytes, digest, blocks, written};
 
 // The functions BSIG0, BSIG1, SSIG0, SSIG1, CH and MAJ of RFC 6234, 5.1.
 fn big_sigma0(x: u32) -> u32
@@ -194,18 +194,10 @@ fn last_rounds(v: Working) -> [u32; 8]
     t15
 }
 
-// The hash `s` after one more block.
-fn compression(s: [u32; 8], block: &[u8]) -> [u32; 8]
-    requires { length block.now ≡ 64 }
-    ensures { result ≡ compress s block.now }
+// The sums of two hashes, word by word.
+fn sum(s: [u32; 8], t: [u32; 8]) -> [u32; 8]
+    ensures { result ≡ sums s t }
 {
-    let window = block_words(block);
-    let mut v = Working { hash: s, window };
-    for j in 0..3 {
-        let next = sixteen_turns(v, 16 * j);
-        v = next;
-    }
-    let t = last_rounds(v);
     [
         s[0].wrapping_add(t[0]),
         s[1].wrapping_add(t[1]),
@@ -218,23 +210,18 @@ fn compression(s: [u32; 8], block: &[u8]) -> [u32; 8]
     ]
 }
 
-// The words of a hash as bytes, each with its highest byte first.
-fn state_bytes(s: [u32; 8]) -> [u8; 32]
-    ensures { result ≡ state_bytes s }
+// The hash `s` after one more block.
+fn compression(s: [u32; 8], block: &[u8]) -> [u32; 8]
+    requires { length block.now ≡ 64 }
+    ensures { result ≡ compress s block.now }
 {
-    let a = s[0].to_be_bytes();
-    let b = s[1].to_be_bytes();
-    let c = s[2].to_be_bytes();
-    let d = s[3].to_be_bytes();
-    let e = s[4].to_be_bytes();
-    let f = s[5].to_be_bytes();
-    let g = s[6].to_be_bytes();
-    let h = s[7].to_be_bytes();
-    [
-        a[0], a[1], a[2], a[3], b[0], b[1], b[2], b[3], c[0], c[1], c[2], c[3], d[0], d[1], d[2],
-        d[3], e[0], e[1], e[2], e[3], f[0], f[1], f[2], f[3], g[0], g[1], g[2], g[3], h[0], h[1],
-        h[2], h[3],
-    ]
+    let window = block_words(block);
+    let mut v = Working { hash: s, window };
+    for j in 0..3 {
+        let next = sixteen_turns(v, 16 * j);
+        v = next;
+    }
+    sum(s, last_rounds(v))
 }
 
 // Writes `bytes` into `buf`, from place `at` on.
@@ -243,6 +230,30 @@ fn put(buf: &mut [u8], at: usize, bytes: &[u8])
     ensures { buf.new ≡ written at bytes.now buf.old }
 {
     buf[at..at + bytes.len()].copy_from_slice(bytes);
+}
+
+// Four words as bytes, each with its highest byte first.
+fn four_words(x: u32, y: u32, z: u32, w: u32) -> [u8; 16]
+    ensures { result ≡ word_bytes x ++ (word_bytes y ++ (word_bytes z ++ word_bytes w)) }
+{
+    let a = x.to_be_bytes();
+    let b = y.to_be_bytes();
+    let c = z.to_be_bytes();
+    let d = w.to_be_bytes();
+    [
+        a[0], a[1], a[2], a[3], b[0], b[1], b[2], b[3], c[0], c[1], c[2], c[3], d[0], d[1], d[2],
+        d[3],
+    ]
+}
+
+// The words of a hash as bytes.
+fn state_bytes(s: [u32; 8]) -> [u8; 32]
+    ensures { result ≡ state_bytes s }
+{
+    let mut out = [0u8; 32];
+    put(&mut out, 0, &four_words(s[0], s[1], s[2], s[3]));
+    put(&mut out, 16, &four_words(s[4], s[5], s[6], s[7]));
+    out
 }
 
 // The last bytes of a message, and its padding: one block, or two. `total` is the message's length modulo 2^64.

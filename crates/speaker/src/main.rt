@@ -55,10 +55,10 @@ fn say(rt: &HostRuntime, sender: &mut Sender, n: u64, text: &[u8]) -> io::Result
 
 fn play(rt: &HostRuntime, script: Script, date: u64) -> anyhow::Result<()> {
     let Some(parameters) = script.parameters else {
-        return Err(anyhow!("no settings"));
+        return Err(anyhow!("\"no settings\""));
     };
     let Some(drawn) = script.drawn else {
-        return Err(anyhow!("no drawn key"));
+        return Err(anyhow!("\"no drawn key\""));
     };
     let (mut sender, settings) = calls::begin(parameters, date, drawn);
     rt.stdout().write_all(&settings)?;
@@ -91,9 +91,9 @@ fn run(rt: &HostRuntime) -> anyhow::Result<()> {
             let line = f.line;
             let number = f.refusal.number();
             eprintln!(rt; "line {line}: refused {number}")?;
-            Err(anyhow!("the script was not played"))
+            Err(anyhow!("\"the script was not played\""))
         }
-        Err(Error::NoMemory) => Err(anyhow!("no memory")),
+        Err(Error::NoMemory) => Err(anyhow!("\"no memory\"")),
     }
 }
 

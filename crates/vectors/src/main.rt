@@ -39,7 +39,7 @@ fn run_file(rt: &HostRuntime, file: &str, kind: Kind, mut count: Count) -> anyho
                 }
             }
             Err(fault) => {
-                return Err(anyhow!(format!(in rt.alloc(); "{file}, line {number}: {fault}")?));
+                return Err(anyhow!(format!(in rt.alloc(); "\"{file}, line {number}: {fault}\"")?));
             }
         }
     }
@@ -49,10 +49,10 @@ fn run_file(rt: &HostRuntime, file: &str, kind: Kind, mut count: Count) -> anyho
 fn run(rt: &HostRuntime) -> anyhow::Result<()> {
     let mut args = env::args(rt)?.skip(1);
     let Some(digests) = args.next() else {
-        return Err(anyhow!("no file of digests"));
+        return Err(anyhow!("\"no file of digests\""));
     };
     let Some(hmacs) = args.next() else {
-        return Err(anyhow!("no file of HMACs"));
+        return Err(anyhow!("\"no file of HMACs\""));
     };
     let none = Count {
         vectors: 0,
@@ -66,7 +66,7 @@ fn run(rt: &HostRuntime) -> anyhow::Result<()> {
     let passed = count.passed;
     println!(rt; "{vectors} vectors, {differ} differ; {passed} lines passed over")?;
     if differ != 0 {
-        return Err(anyhow!("a result is not the published one"));
+        return Err(anyhow!("\"a result is not the published one\""));
     }
     Ok(())
 }

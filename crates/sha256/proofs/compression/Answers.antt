@@ -1,5 +1,5 @@
 use Rattle.std.proofs.Common.{◌≡◌, ◌+◌, ◌*◌, refl, arith}
-use Rattle.sha256.specs.Sha256.{rounds, expanded, compress, sums}
+use Rattle.sha256.specs.Sha256.{rounds, expanded, compress}
 use Rattle.sha256.proofs.compression.Goals as goal
 
 pub loop-j-init : goal.loop-j-init
@@ -12,9 +12,9 @@ loop-j-preserved c =
     rw e (c.sixteen_turns-next.ensures c.args.block.now c.args.s c.loop-j.invariant)
 
 pub returns : goal.returns
-unfolding compress sums
+unfolding compress
 returns c =
     let e : 16 * c.loop-j.j ≡ 48 = omega arith in
     let a = rw e at c.loop-j.invariant in
-    let r = c.last_rounds-t.ensures c.args.block.now c.args.s a in
+    let r = c.last_rounds.ensures c.args.block.now c.args.s a in
     cc
