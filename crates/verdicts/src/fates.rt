@@ -1,8 +1,8 @@
 // The fates of messages, from the events of a play.
-ghost use Rattle.std.specs.Prelude.{◌≡◌, ◌*◌, ◌^◌, ◌<◌, length, IfSome, IfOk, fold};
+ghost use Rattle.std.specs.Prelude.{◌≡◌, ◌*◌, ◌^◌, ◌<◌, length, replicate, IfSome, IfOk, fold};
 ghost use Rattle.timing.specs.Time.{parameters_of};
 ghost use Rattle.buffer.specs.Buffers.{messages_in};
-ghost use Rattle.verdicts.specs.Fates.{is_in_time, is_within, is_buffered, is_no_room, reached_by, pair_of, changed_by, place_if_there, row_of, Moved, fate_after, AreFates};
+ghost use Rattle.verdicts.specs.Fates.{no_fate, is_in_time, is_within, is_buffered, is_no_room, reached_by, pair_of, changed_by, place_if_there, row_of, Moved, fate_after, AreFates};
 ghost use Rattle.verdicts.specs.Verdicts.{believes, lacks_key, lacks_room, verdict_of};
 
 use crate::fate::{Fate, Pair, Verdict};
@@ -131,6 +131,25 @@ fn note_all(p: Parameters, said: &[Buffered], receivers: usize, events: &[Event]
     }
 }
 
+// For each message a fate at each receiver, in which nothing has become of it.
+fn blank(heap: Global, said: &[Buffered], receivers: usize) -> Result<Vec<Fate>, AllocError>
+    ensures { IfOk result (λ v. v.items ≡ replicate (length said.now * receivers) no_fate) }
+{
+    let none = Fate {
+        in_time: false,
+        outside: false,
+        buffered: false,
+        no_room: false,
+        delivered: false,
+    };
+    let row = vec![in heap; none; receivers]?;
+    let mut all = Vec::new(heap);
+    for _message in said {
+        all.extend_from_slice(row.as_slice())?;
+    }
+    Ok(all)
+}
+
 // For each message that was said, in their order, the fates at all receivers, in their order.
 pub fn fates(
     heap: Global,
@@ -141,17 +160,7 @@ pub fn fates(
 ) -> Result<Vec<Fate>, AllocError>
     ensures { IfOk result (λ v. AreFates (parameters_of p) (messages_in said.now) events.now receivers v.items) }
 {
-    let none = Fate {
-        in_time: false,
-        outside: false,
-        buffered: false,
-        no_room: false,
-        delivered: false,
-    };
-    let Some(count) = said.len().checked_mul(receivers) else {
-        return Err(AllocError);
-    };
-    let mut all = vec![in heap; none; count]?;
+    let mut all = blank(heap, said, receivers)?;
     note_all(p, said, receivers, events, all.as_mut_slice());
     Ok(all)
 }

@@ -4,3 +4,5 @@
 pub mod fate;
 pub mod fates;
 pub mod laws;
+#[cfg(test)]
+mod plays;
