@@ -74,5 +74,8 @@ fn one_of_two_believes(rt: HostRuntime) -> Result<(), Fail> {
     assert!(rt; v.no_room == 0);
     assert!(rt; v.outside == 0);
     assert!(rt; cast.unsaid.is_empty());
+    let before = cast.events.len();
+    cast.judge(4, 0, 3)?;
+    assert!(rt; before < cast.events.len());
     Ok(())
 }
