@@ -158,6 +158,7 @@ deliveredOf delivered_of
 deliveries-both deliveries_both
 deliveriesOf deliveries_of
 deliversAny delivers_any
+deliversBy delivers_by
 delivery-again delivery_again
 delivery-back delivery_back
 delivery-cut delivery_cut
@@ -227,6 +228,7 @@ first-lent first_lent
 firstSite first_site
 firstState first_state
 firstTurn first_turn
+firstWorld first_world
 fitsBuffer fits_buffer
 fixed-said fixed_said
 fixed-tick fixed_tick
@@ -323,7 +325,9 @@ its-interval its_interval
 judge-again judge_again
 judge-timely judge_timely
 judgeAnyKey judge_any_key
+judgeBy judge_by
 judgeKey judge_key
+judgeKeyBy judge_key_by
 judgeTick judge_tick
 judgeWalk judge_walk
 judged-by-settings judged_by_settings
@@ -470,6 +474,7 @@ not-here not_here
 not-slow not_slow
 numbers-are numbers_are
 numbers-same numbers_same
+numbersOf numbers_of
 of-first of_first
 of-push of_push
 of-take of_take
@@ -510,6 +515,7 @@ parametersOf parameters_of
 part-is part_is
 part-more part_more
 partWork part_work
+partsWork parts_work
 passed-by passed_by
 passed-stands passed_stands
 played-is played_is
@@ -557,6 +563,7 @@ said-not said_not
 said-part said_part
 said-whole said_whole
 said-yes said_yes
+saidAfter said_after
 saidBy said_by
 saidBytes said_bytes
 saidIn said_in

@@ -3,7 +3,7 @@ ghost use Rattle.std.specs.Prelude.{◌≡◌, ℕ, ◌+◌, ◌-◌, ◌<◌, �
 ghost use Rattle.sha256.specs.Hmac.{hmac};
 ghost use Rattle.timing.specs.Time.{parameters_of};
 ghost use Rattle.model.specs.Receiver.{in_chain, has_room, right_up_to, later_than, key_steps, learns, hears};
-ghost use Rattle.model.specs.Receiver.{judge as judgeBy, judge_key as judgeKeyBy, delivers as deliversBy};
+ghost use Rattle.model.specs.Receiver.{judge as judge_by, judge_key as judge_key_by, delivers as delivers_by};
 ghost use Rattle.buffer.specs.Buffers.{as_message, messages_of, saids_of, KeysOf};
 ghost use Rattle.receiver.specs.State.{meant, params_of, state_of, Wants, Work};
 
@@ -37,7 +37,7 @@ fn has_room(buffer: &Buffer, interval: u16) -> bool
 
 // What a message comes to, the lowest number first.
 fn judge(r: &Receiver, m: &Buffered) -> Outcome
-    ensures { meant result ≡ judgeBy (params_of r.now) (state_of r.now) (as_message m.now) }
+    ensures { meant result ≡ judge_by (params_of r.now) (state_of r.now) (as_message m.now) }
 {
     let interval = m.numbers.interval;
     if !in_range(r.parameters, m.numbers) {
@@ -65,7 +65,7 @@ fn judge(r: &Receiver, m: &Buffered) -> Outcome
 pub fn hear(r: &mut Receiver, m: &Buffered) -> Outcome
     ensures parameters { r.new.parameters ≡ r.old.parameters }
     ensures state { state_of r.new ≡ hears (params_of r.old) (as_message m.now) (state_of r.old) }
-    ensures outcome { meant result ≡ judgeBy (params_of r.old) (state_of r.old) (as_message m.now) }
+    ensures outcome { meant result ≡ judge_by (params_of r.old) (state_of r.old) (as_message m.now) }
 {
     let o = judge(r, m);
     if let Outcome::Buffered = o {
@@ -98,7 +98,7 @@ struct Tried {
 }
 
 fn try_key(r: &Receiver, j: u16, key: Key) -> Tried
-    ensures outcome { meant result.outcome ≡ judgeKeyBy (params_of r.now) hmac j key.bytes (state_of r.now) }
+    ensures outcome { meant result.outcome ≡ judge_key_by (params_of r.now) hmac j key.bytes (state_of r.now) }
     ensures steps { result.steps ≡ key_steps (params_of r.now) j (state_of r.now) }
     ensures keys { result.outcome ≡ Outcome.Taken → (r.now.newest ≤ j) × KeysOf r.now.newest j key.bytes r.now.buffer result.keys }
 {
@@ -153,8 +153,8 @@ pub struct Learned {
 pub fn learn(r: &mut Receiver, j: u16, key: Key, out: &mut Buffer) -> Learned
     ensures parameters { r.new.parameters ≡ r.old.parameters }
     ensures state { state_of r.new ≡ learns (params_of r.old) hmac j key.bytes (state_of r.old) }
-    ensures outcome { meant result.outcome ≡ judgeKeyBy (params_of r.old) hmac j key.bytes (state_of r.old) }
-    ensures delivered { saids_of out.new ≡ deliversBy (params_of r.old) hmac j key.bytes (state_of r.old) }
+    ensures outcome { meant result.outcome ≡ judge_key_by (params_of r.old) hmac j key.bytes (state_of r.old) }
+    ensures delivered { saids_of out.new ≡ delivers_by (params_of r.old) hmac j key.bytes (state_of r.old) }
     ensures work { Work result.steps result.tags (key_steps (params_of r.old) j (state_of r.old)) }
 {
     let t = try_key(r, j, key);

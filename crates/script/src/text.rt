@@ -1,7 +1,7 @@
 // Bytes into lines, words and numbers.
 ghost use Rattle.std.specs.Prelude.{◌≡◌, ◌+◌, ◌-◌, ◌*◌, ◌^◌, ◌<◌, ◌&&◌, [], ◌∷◌, length, if◌then◌else◌, Some, None, vec_items, MatchOption, nat_lt};
 ghost use Rattle.script.specs.Stops.{Gives};
-ghost use Rattle.script.specs.Text.{pieces, words, is_digit, decimal, numbers as numbersOf};
+ghost use Rattle.script.specs.Text.{pieces, words, is_digit, decimal, numbers as numbers_of};
 
 use crate::stop::Stop;
 use std::alloc::Global;
@@ -62,7 +62,7 @@ fn with_digit(n: u64, b: u8) -> Option<u64>
 
 // Every word of a line as a number.
 pub fn numbers(heap: Global, fields: &[u8]) -> Result<Vec<u64>, Stop>
-    ensures { Gives vec_items result (numbersOf (words fields.now)) }
+    ensures { Gives vec_items result (numbers_of (words fields.now)) }
 {
     let mut all = Vec::new(heap);
     let mut rest = fields;

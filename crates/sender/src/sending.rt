@@ -13,7 +13,7 @@ ghost use Rattle.segments.specs.Parts.{key_at};
 ghost use Rattle.turns.specs.Turns.{afterwards};
 ghost use Rattle.sender.specs.Of.{state_of};
 ghost use Rattle.sender.specs.State.{first_state, setup_for, newest_in, interval, newest, key_of, work_at, advanced, due, alone, told_alone, shown_key, ticked, tick_answer, tick_bytes, message_of, may_not, say_answer, sent_length, sent_over};
-ghost use Rattle.sender.specs.State.{said as saidAfter};
+ghost use Rattle.sender.specs.State.{said as said_after};
 
 use crate::state::Sender;
 use keychain::key::Key;
@@ -228,7 +228,7 @@ impl Sender {
 
     // Says a text in the interval of the clock: the message at the front of the memory, and how many bytes it has.
     pub fn say(&mut self, text: &[u8], out: &mut [u8; 256]) -> Result<usize, Refusal>
-        ensures after { state_of self.new ≡ saidAfter (state_of self.old) text.now }
+        ensures after { state_of self.new ≡ said_after (state_of self.old) text.now }
         ensures answer { result ≡ sent_length (say_answer (state_of self.old) text.now) }
         ensures memory { out.new ≡ sent_over (say_answer (state_of self.old) text.now) out.old }
     {

@@ -7,7 +7,7 @@ use Rattle.std.proofs.lemmas.Bool.Decides.{nat_tests as ways}
 use Rattle.timing.specs.Time.{interval_at}
 use Rattle.segments.specs.Parts.{part_of}
 use Rattle.segments.specs.Work.{works, Rising}
-use Rattle.segments.specs.Work.{work as partsWork}
+use Rattle.segments.specs.Work.{work as parts_work}
 use Rattle.segments.proofs.Work as segments-work
 use Rattle.sender.specs.State.{State, first_state, interval, newest, work_at, advanced, due, alone, told_alone, shown_key, said, after_said}
 use Rattle.sender_laws.specs.Run.{Event, tick, say, worked, all_worked, told_by_tick, alone_in, all_alones, entered, all_entered, Ascending, ByItself, WorkedOnce}
@@ -122,7 +122,7 @@ enters_rising s (tick t ∷ es) pos =
     (λ h d. rw (taken_tick s t h) (later s t pos h, enters_rising (advanced s t) es pos))
     (λ h d. rw (taken_tick s t h) (later s t pos h, enters_rising (told_alone (advanced s t)) es pos))
 
-works_more : (last delay part i : ℕ) (is : List ℕ) → works last delay part (i ∷ is) ≡ partsWork last delay part (part_of last i) ++ works last delay (part_of last i) is
+works_more : (last delay part i : ℕ) (is : List ℕ) → works last delay part (i ∷ is) ≡ parts_work last delay part (part_of last i) ++ works last delay (part_of last i) is
 unfolding works
 works_more last delay part i is = refl
 

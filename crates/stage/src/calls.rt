@@ -7,7 +7,7 @@ ghost use Rattle.wire.specs.Values.{packet_of};
 ghost use Rattle.buffer.specs.Buffers.{as_said, as_message, saids_of};
 ghost use Rattle.sender.specs.Of.{state_of};
 ghost use Rattle.sender.specs.State.{say_answer, sent_length, sent_over};
-ghost use Rattle.sender.specs.State.{said as saidAfter};
+ghost use Rattle.sender.specs.State.{said as said_after};
 ghost use Rattle.stage.specs.Scenes.{out_of, scene_of, noted, newer, noticed, on_air, time_passed, spoken, clock_told, delivered_one, delivered_all, heard_by, judged_by};
 
 use crate::cast::{Cast, Out};
@@ -54,7 +54,7 @@ fn newer_of(out: Out, interval: u16, key: &[u8; 32]) -> Out
 
 // What the sender says; it has no more bytes than the memory.
 fn say_into(sender: &mut Sender, text: &[u8], out: &mut [u8; 256]) -> Result<usize, Refusal>
-    ensures after { state_of sender.new ≡ saidAfter (state_of sender.old) text.now }
+    ensures after { state_of sender.new ≡ said_after (state_of sender.old) text.now }
     ensures answer { result ≡ sent_length (say_answer (state_of sender.old) text.now) }
     ensures memory { out.new ≡ sent_over (say_answer (state_of sender.old) text.now) out.old }
     ensures within { IfOk result (λ n. n ≤ 256) }
