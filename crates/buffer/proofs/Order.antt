@@ -1,14 +1,12 @@
 -- The order of delivery: what one more interval gives, and that there is room for all.
-use Rattle.std.proofs.Common.{◌≡◌, ℕ, zero, suc, pred, ◌+◌, ◌-◌, ◌/◌, ◌%◌, ◌<◌, ◌≤◌, Bool, true, false, cond, ◌&&◌, eqb, leb, List, [], ◌∷◌, ◌++◌, map, length, get_or, take, drop, sym, refl, ap, ◌∙◌, zero-add, arith}
-use Rattle.std.proofs.lemmas.Bool.{cond_both, and_from, and_right}
+use Rattle.std.proofs.Common.{◌≡◌, ℕ, zero, suc, pred, ◌+◌, ◌-◌, ◌<◌, ◌≤◌, true, false, cond, ◌&&◌, eqb, leb, List, [], ◌∷◌, ◌++◌, map, length, get_or, take, sym, refl, ap, ◌∙◌, arith}
+use Rattle.std.proofs.lemmas.Bool.{cond_both}
 use Rattle.std.proofs.lemmas.Bool.Decides.{nat_tests}
-use Rattle.std.proofs.lemmas.List.{take-map, take-take, length-take-le, append-nil, append_assoc, length-append, length-drop, drop_all, take_at}
-use Rattle.sha256.specs.Sha256.{written}
+use Rattle.std.proofs.lemmas.List.{length-append, take_more, length-map, get_or-map}
 use Rattle.model.specs.Term.{MacFn}
-use Rattle.model.specs.Receiver.{Message, Said, is_right, of_interval, right_of, right_up_to, walked, message_bytes}
+use Rattle.model.specs.Receiver.{Message, Said, is_right, of_interval, right_of, right_up_to, walked}
 use Rattle.buffer.specs.declared.message.Buffered.{Buffered}
-use Rattle.buffer.specs.Buffers.{as_message, as_said, messages_in, saids_in, up_to}
-use Rattle.buffer.proofs.Lists.{messages_more, saids_push}
+use Rattle.buffer.specs.Buffers.{as_message, messages_in, up_to}
 
 pub upto_more : (i : ℕ) (xs : List Message) → up_to (i + 1) xs ≡ up_to i xs + of_interval (i + 1) xs
 unfolding up_to of_interval
@@ -53,51 +51,14 @@ of_take i (suc p) (x ∷ xs) =
     let e = of_take i p xs in
     elim (eqb x.says.interval i) as (λ b. cond b (suc (of_interval i (take p xs))) (of_interval i (take p xs)) ≤ cond b (suc (of_interval i xs)) (of_interval i xs)) [ true ↦ omega arith | false ↦ omega arith ]
 
--- of the first p of a buffer no more than of the first n
-pub of_first : (i p n : ℕ) (ks : List Buffered) → p ≤ n → of_interval i (messages_in (take p ks)) ≤ of_interval i (messages_in (take n ks))
+-- one message more of a buffer, which is met at its place
+pub one_met : {P : Type 0} (ks : List Buffered) (ys : List P) (p : P) (x : Buffered) → length ys < length ks → x ≡ get_or ks (length ys) x
+    → take (length (ys ++ p ∷ [])) (messages_in ks) ≡ take (length ys) (messages_in ks) ++ as_message x ∷ []
 unfolding messages_in
-of_first i p n ks h =
-    let e : take p (map as_message (take n ks)) ≡ map as_message (take p ks) = take-map as_message p (take n ks) ∙ ap (map as_message) (take-take p n ks h) in
-    let l = of_take i p (map as_message (take n ks)) in
-    rw (← e) l
-
-pub part_more : (m : MacFn) (k : List ℕ) (i : ℕ) (ks : List Buffered) (b : ℕ) (d : Buffered) → b < length ks
-    → right_of m k i (messages_in (take (b + 1) ks)) ≡ right_of m k i (messages_in (take b ks)) ++ cond (eqb (get_or ks b d).numbers.interval i && is_right m k (as_message (get_or ks b d))) (as_said (get_or ks b d) ∷ []) []
-part_more m k i ks b d h = let p = messages_more ks b d h in let q = right_push m k i (messages_in (take b ks)) (as_message (get_or ks b d)) in rw (p, q)
-
--- the bytes under a message's tag
-pub head_is : (k : Buffered) → take (5 + k.numbers.len) (1 ∷ (k.numbers.interval / 256) ∷ (k.numbers.interval % 256) ∷ k.numbers.index ∷ k.numbers.len ∷ k.text) ≡ message_bytes (as_said k)
-head_is k =
-    let e : 5 + k.numbers.len ≡ suc (suc (suc (suc (suc k.numbers.len)))) = omega arith in
-    let h : k.numbers.len ≤ length k.text = omega (arith, k.short, k.sized) in
-    let l = length-take-le k.numbers.len k.text h in
-    rw (e, l)
-
-pub said_no : (m : MacFn) (k : List ℕ) (i : ℕ) (ks : List Buffered) (b : ℕ) (d : Buffered) (out : List Said) (ws : List Message) → b < length ks
-    → (eqb (get_or ks b d).numbers.interval i && is_right m k (as_message (get_or ks b d))) ≡ false
-    → saids_in ws ≡ out ++ right_of m k i (messages_in (take b ks)) → saids_in ws ≡ out ++ right_of m k i (messages_in (take (b + 1) ks))
-said_no m k i ks b d out ws h t e = let p = part_more m k i ks b d h in rw (p, t, append-nil) e
-
-pub said_not : (m : MacFn) (k' k : List ℕ) (i : ℕ) (ks : List Buffered) (b : ℕ) (d : Buffered) (out : List Said) (ws : List Message) (r : Bool) → b < length ks
-    → k' ≡ k → r ≡ is_right m k' (as_message (get_or ks b d)) → r ≡ false
-    → saids_in ws ≡ out ++ right_of m k i (messages_in (take b ks)) → saids_in ws ≡ out ++ right_of m k i (messages_in (take (b + 1) ks))
-said_not m k' k i ks b d out ws r h z q f e =
-    let g : is_right m k (as_message (get_or ks b d)) ≡ false = ap (λ (u : List ℕ). is_right m u (as_message (get_or ks b d))) (sym z) ∙ sym q ∙ f in
-    said_no m k i ks b d out ws h (and_right _ _ g) e
-
-pub said_yes : (m : MacFn) (k' k : List ℕ) (i : ℕ) (ks : List Buffered) (b : ℕ) (d : Buffered) (out : List Said) (ws vs : List Message) (r : Bool) → b < length ks
-    → eqb (get_or ks b d).numbers.interval i ≡ true → k' ≡ k → r ≡ is_right m k' (as_message (get_or ks b d)) → r ≡ true → vs ≡ ws ++ as_message (get_or ks b d) ∷ []
-    → saids_in ws ≡ out ++ right_of m k i (messages_in (take b ks)) → saids_in vs ≡ out ++ right_of m k i (messages_in (take (b + 1) ks))
-said_yes m k' k i ks b d out ws vs r h t z q f v e =
-    let g : is_right m k (as_message (get_or ks b d)) ≡ true = ap (λ (u : List ℕ). is_right m u (as_message (get_or ks b d))) (sym z) ∙ sym q ∙ f in
-    let a = and_from _ _ t g in
-    let p = part_more m k i ks b d h in
-    let s = saids_push ws (as_message (get_or ks b d)) in
-    rw (v, s, e, p, a, append_assoc out (right_of m k i (messages_in (take b ks))))
-
-pub joined_is : (f b z : List ℕ) → length f ≡ 5 → length b ≡ 200 → length z ≡ 205 → written 5 b (written 0 f z) ≡ f ++ b
-joined_is f b z five long all =
-    let e : written 0 f z ≡ f ++ drop 5 z = rw (zero-add (length f), five) in
-    let l : length (f ++ drop 5 z) ≤ 5 + length b = simp (length-append, length-drop) (omega arith) in
-    let n = drop_all (5 + length b) (f ++ drop 5 z) l in
-    rw (e, take_at f (drop 5 z) 5 five, n, append-nil)
+one_met ks ys p x h e =
+    let ws = map as_message ks in
+    let n = length ys in
+    let l : length (ys ++ p ∷ []) ≡ n + 1 = length-append ys (p ∷ []) in
+    let within : n < length ws = omega (arith, length-map ks as_message) in
+    let here : get_or ws n (as_message x) ≡ as_message x = get_or-map as_message ks n x (as_message x) h ∙ ap as_message (sym e) in
+    ap (λ i. take i ws) l ∙ take_more ws n (as_message x) within ∙ ap (λ w. take n ws ++ w ∷ []) here

@@ -13,6 +13,10 @@ as_said k = record { interval = k.numbers.interval; index = k.numbers.index; tex
 abbrev pub as_message : Buffered → Message
 as_message k = record { says = as_said k; tag = k.tag }
 
+-- a message by what it says and its tag
+abbrev pub with_tag : Said → (tag : List ℕ) → Message
+with_tag s t = record { says = s; tag = t }
+
 -- a message by its parts
 abbrev pub message_by : (interval index : ℕ) → (text tag : List ℕ) → Message
 message_by i n t g = record { says = record { interval = i; index = n; text = t }; tag = g }

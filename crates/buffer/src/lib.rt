@@ -4,27 +4,33 @@
 pub mod message;
 pub mod room;
 
-ghost use Rattle.std.specs.Prelude.{◌≡◌, ℕ, ◌+◌, ◌-◌, ◌/◌, ◌%◌, ◌<◌, ◌≤◌, true, false, ◌&&◌, List, [], ◌∷◌, ◌++◌, length, take, if◌then◌else◌, MatchResult, nat_lt};
+ghost use Rattle.std.specs.Prelude.{◌≡◌, ℕ, ◌+◌, ◌-◌, ◌<◌, ◌≤◌, true, false, List, [], ◌∷◌, ◌++◌, length, take, if◌then◌else◌, MatchResult, nat_lt};
+ghost use Rattle.std.specs.List.{list_any};
 ghost use Rattle.sha256.specs.Hmac.{hmac};
-ghost use Rattle.sha256.specs.Sha256.{written};
 ghost use Rattle.timing.specs.declared.refusal.Refusal.TheVariants.{Malformed};
-ghost use Rattle.model.specs.Receiver.{same_message, is_in, of_interval, later_than, is_right, right_of, right_up_to, walked};
-ghost use Rattle.buffer.specs.Buffers.{as_message, message_by, messages_of, saids_of, OneKey, KeysOf, up_to, fits_buffer};
+ghost use Rattle.model.specs.Receiver.{same_message, is_in, of_interval, later_than, is_right, right_of, right_up_to};
+ghost use Rattle.wire.specs.Values.{said_of};
+ghost use Rattle.buffer.specs.Buffers.{as_said, as_message, message_by, messages_of, saids_of, OneKey, KeysOf, up_to, fits_buffer};
 
 use crate::message::{Buffered, Numbers};
 use crate::room::Buffer;
+use keychain::PLACES;
 use keychain::key::Key;
-use keychain::{PLACES, same_bytes};
 use timing::refusal::Refusal;
+use wire::message as wired;
+use wire::said::Said;
 
 impl Buffered {
     // A message as it is buffered; one with a text or a tag of another length is refused.
     pub fn new(interval: u16, index: u8, text: &[u8], tag: &[u8]) -> Result<Buffered, Refusal>
         ensures { MatchResult result (λ m. (as_message m ≡ message_by interval index text.now tag.now) × (fits_buffer text.now tag.now ≡ true)) (λ e. (e ≡ Malformed) × (fits_buffer text.now tag.now ≡ false)) }
     {
-        if text.len() > 200 || tag.len() != 16 {
+        if text.len() > 200 {
             return Err(Refusal::Malformed);
         }
+        let tag = <[u8; 16]>::try_from(tag).map_err(|_| Refusal::Malformed)?;
+        let mut bytes = [0; 200];
+        bytes[..text.len()].copy_from_slice(text);
         let numbers = Numbers {
             interval,
             index,
@@ -32,82 +38,74 @@ impl Buffered {
         };
         Ok(Buffered {
             numbers,
-            text: padded(text),
-            tag: tag_of(tag),
+            text: bytes,
+            tag,
         })
     }
 
-    // Whether two messages are the same: interval, index, text and tag.
-    pub fn same(&self, other: &Buffered) -> bool
-        ensures { result ≡ same_message (as_message self.now) (as_message other.now) }
+    // Its text.
+    pub fn text(&self) -> &[u8]
+        ensures { result.now ≡ take self.now.numbers.len self.now.text }
     {
-        self.numbers.interval == other.numbers.interval
-            && self.numbers.index == other.numbers.index
-            && same_bytes(
-                &self.text[0..self.numbers.len as usize],
-                &other.text[0..other.numbers.len as usize],
-            )
-            && same_bytes(&self.tag, &other.tag)
+        &self.text[..usize::from(self.numbers.len)]
+    }
+
+    // What it says.
+    pub fn said(&self) -> Said<'_>
+        ensures { said_of result ≡ as_said self.now }
+    {
+        Said {
+            interval: self.numbers.interval,
+            index: self.numbers.index,
+            text: self.text(),
+        }
     }
 
     // Whether the tag is right under the key of the message's interval.
     pub fn is_right(&self, key: Key) -> bool
         ensures { result ≡ is_right hmac key.bytes (as_message self.now) }
     {
-        let all = joined(front(self.numbers), self.text);
-        key.authenticates(&all[0..5 + self.numbers.len as usize], &self.tag)
+        let mut under_tag = [0; 256];
+        let count = wired::write_under_tag(self.said(), &mut under_tag).unwrap();
+        key.authenticates(&under_tag[..count], &self.tag)
     }
 }
 
-fn padded(text: &[u8]) -> [u8; 200]
-    requires { length text.now ≤ 200 }
-    ensures { take (length text.now) result ≡ text.now }
-{
-    let mut bytes = [0u8; 200];
-    put(&mut bytes, 0, text);
-    bytes
+// Two messages are the same if interval, index, text and tag are; what is behind the text doesn't count.
+impl PartialEq for Buffered {
+    ghost use Rattle.std.proofs.Common.{rules};
+    ghost use Rattle.std.specs.Cmp.Rules.{comparing};
+    ghost use Rattle.model.specs.Receiver.{same_message};
+    ghost use Rattle.buffer.specs.Buffers.{as_message};
+
+    ghost eq = { λ a b. same_message (as_message a) (as_message b) };
+
+    ghost laws = { Prim.search (comparing, rules) };
+
+    fn eq(&self, other: &Buffered) -> bool {
+        self.numbers.interval == other.numbers.interval
+            && self.numbers.index == other.numbers.index
+            && self.text() == other.text()
+            && self.tag == other.tag
+    }
 }
 
-fn tag_of(tag: &[u8]) -> [u8; 16]
-    requires { length tag.now ≡ 16 }
-    ensures { result ≡ tag.now }
-{
-    let mut bytes = [0u8; 16];
-    bytes.copy_from_slice(tag);
-    bytes
+impl Eq for Buffered {
+    ghost use Rattle.std.proofs.Common.{rules};
+    ghost use Rattle.std.specs.Cmp.Rules.{comparing};
+
+    ghost laws = { Prim.search (comparing, rules) };
 }
 
-// Kind, interval, index and length, as they stand under a tag.
-fn front(n: Numbers) -> [u8; 5]
-    ensures { result ≡ 1 ∷ (n.interval / 256) ∷ (n.interval % 256) ∷ n.index ∷ n.len ∷ [] }
+// Whether one equal to it is among them.
+fn is_among(k: &Buffered, messages: &[Buffered]) -> bool
+    ensures { result ≡ list_any (λ m. same_message (as_message k.now) (as_message m)) messages.now }
 {
-    [
-        1,
-        (n.interval / 256) as u8,
-        (n.interval % 256) as u8,
-        n.index,
-        n.len,
-    ]
-}
-
-// Writes `bytes` into `buf`, from place `at` on.
-fn put(buf: &mut [u8], at: usize, bytes: &[u8])
-    requires { at + length bytes.now ≤ length buf.old }
-    ensures { buf.new ≡ written at bytes.now buf.old }
-{
-    buf[at..at + bytes.len()].copy_from_slice(bytes);
-}
-
-fn joined(front: [u8; 5], bytes: [u8; 200]) -> [u8; 205]
-    ensures { result ≡ front ++ bytes }
-{
-    let mut all = [0u8; 205];
-    put(&mut all, 0, &front);
-    put(&mut all, 5, &bytes);
-    all
+    messages.iter().any(|m| k == m)
 }
 
 impl Buffer {
+    #[tactic(auto, unfolding(crate::specs::Buffers::messages_in))]
     pub fn new() -> Buffer
         ensures count { result.len ≡ 0 }
         ensures messages { messages_of result ≡ [] }
@@ -128,6 +126,14 @@ impl Buffer {
         }
     }
 
+    // Those that are there.
+    pub fn messages(&self) -> &[Buffered]
+        ensures { result.now ≡ take self.now.len self.now.messages }
+    {
+        &self.messages[..self.len]
+    }
+
+    #[tactic(auto, unfolding(crate::specs::Buffers::messages_in))]
     pub fn clear(&mut self)
         ensures count { self.new.len ≡ 0 }
         ensures messages { messages_of self.new ≡ [] }
@@ -150,34 +156,24 @@ impl Buffer {
     pub fn has(&self, k: &Buffered) -> bool
         ensures { result ≡ is_in (as_message k.now) (messages_of self.now) }
     {
-        let mut found = false;
-        for i in 0..self.len {
-            let w = self.messages[i];
-            if k.same(&w) {
-                found = true;
-            }
-        }
-        found
+        is_among(k, self.messages())
     }
 
     // How many of an interval are in it.
     pub fn of_interval(&self, interval: u16) -> usize
         ensures { result ≡ of_interval interval (messages_of self.now) }
     {
-        let mut n = 0;
-        for i in 0..self.len {
-            let w = self.messages[i];
-            if w.numbers.interval == interval {
-                n += 1;
-            }
-        }
-        n
+        self.messages()
+            .iter()
+            .filter(|m| m.numbers.interval == interval)
+            .count()
     }
 
     // Without those of the intervals up to this one.
     pub fn forget(&mut self, upto: u16)
         ensures { messages_of self.new ≡ later_than upto (messages_of self.old) }
     {
+        // By index: it writes into the slice that it reads, in fixed memory.
         let mut k = 0;
         for i in 0..self.len {
             let w = self.messages[i];
@@ -189,7 +185,8 @@ impl Buffer {
         self.len = k;
     }
 
-    // The messages of the intervals after `from`, up to `upto`, whose tags are right by the keys noted for their places:
+    // The messages of the intervals after `from`, up to `upto`, whose tags are right by the keys noted for their places
+    // (an array beside the messages, in fixed memory):
     // intervals rising, within one in the order in which they came. Gives how many tags were worked out.
     pub fn deliver(&self, from: u16, upto: u16, keys: &[Key; 64], out: &mut Buffer) -> usize
         ensures tags { from ≤ upto → result + up_to from (messages_of self.now) ≡ up_to upto (messages_of self.now) }
@@ -212,13 +209,11 @@ fn deliver_interval(buffer: &Buffer, interval: u16, keys: &[Key; 64], out: &mut 
     ensures messages { (k : List ℕ) → OneKey interval k buffer.now keys.now → saids_of out.new ≡ saids_of out.old ++ right_of hmac k interval (messages_of buffer.now) }
 {
     let mut tags = 0;
-    for b in 0..buffer.len {
-        if buffer.messages[b].numbers.interval == interval {
+    for (m, key) in buffer.messages().iter().zip(keys) {
+        if m.numbers.interval == interval {
             tags += 1;
-            let w = buffer.messages[b];
-            let key = keys[b];
-            if w.is_right(key) {
-                out.push(w);
+            if m.is_right(*key) {
+                out.push(*m);
             }
         }
     }

@@ -3,7 +3,7 @@ ghost use Rattle.std.specs.Prelude.{◌≡◌, ◌≤◌, length};
 
 use crate::message::Buffered;
 
-// The first `len` of `messages` are there.
+// The first `len` of `messages` are there. An array and a count: fixed memory, which C owns.
 #[derive(Clone, Copy, Drop)]
 #[repr(C)]
 pub struct Buffer {

@@ -1,19 +1,16 @@
 -- Frames that are read.
-use Rattle.std.proofs.Common.{◌≡◌, ℕ, zero, suc, ◌+◌, ◌-◌, ◌*◌, ◌/◌, ◌%◌, ◌<◌, ◌≤◌, true, false, leb, List, ◌∷◌, ◌++◌, length, take, drop, Some, Ok, sym, refl, ap, arith, length-append}
+use Rattle.std.proofs.Common.{◌≡◌, ℕ, zero, suc, ◌+◌, ◌*◌, ◌/◌, ◌%◌, ◌<◌, ◌≤◌, true, false, leb, List, ◌∷◌, ◌++◌, length, take, drop, Some, Ok, sym, refl, ap, arith, length-append}
 use Rattle.std.proofs.lemmas.Bool.{le-leb, lt-leb}
-use Rattle.std.proofs.lemmas.List.{take_all, length-drop, length-take-le, take_at, drop_at}
+use Rattle.std.proofs.lemmas.List.{length-take-le, take_at, drop_at}
 use Rattle.frames.specs.declared.head.Head.{Head}
 use Rattle.frames.specs.declared.head.Source.{Source}
 use Rattle.frames.specs.declared.head.Source.TheVariants.{Clock, Air}
-use Rattle.frames.specs.Head.{head_answer}
-use Rattle.frames.specs.Frames.{source_byte, encoded, read_frame, WrittenRead, FrontsRefused}
+use Rattle.frames.specs.Head.{head_answer, source_byte}
+use Rattle.frames.specs.Frames.{encoded, read_frame, WrittenRead, FrontsRefused}
 
 pub frame_read : (b : List ℕ) (h : Head) (x r : List ℕ) → 3 ≤ length b → Ok h ≡ head_answer b → h.len ≤ length (drop 3 b) → x ≡ take h.len (drop 3 b) → r ≡ drop h.len (drop 3 b) →
     read_frame b ≡ Some (record { source = h.source; bytes = x; rest = r })
 frame_read b h x r p a q e f = rw (le-leb 3 (length b) p, ← a, le-leb h.len (length (drop 3 b)) q, e, f)
-
-pub behind : (b : List ℕ) → take (length b - 3) (drop 3 b) ≡ drop 3 b
-behind b = take_all (length b - 3) (drop 3 b) (omega (arith, length-drop 3 b))
 
 sum : (n : ℕ) → n / 256 * 256 + n % 256 ≡ n
 sum n = omega arith

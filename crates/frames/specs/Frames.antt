@@ -3,17 +3,12 @@ use Rattle.std.specs.Prelude.{◌≡◌, ℕ, ◌/◌, ◌%◌, ◌<◌, cond, L
 use Rattle.timing.specs.declared.refusal.Refusal.{Refusal}
 use Rattle.frames.specs.declared.head.Head.{Head}
 use Rattle.frames.specs.declared.head.Source.{Source}
-use Rattle.frames.specs.declared.head.Source.TheVariants.{Clock, Air}
-use Rattle.frames.specs.Head.{head_answer}
+use Rattle.frames.specs.Head.{head_answer, source_byte}
 
 pub record Frame : Type 0 where
   pub source : Source
   pub bytes : List ℕ
   pub rest : List ℕ
-
-abbrev pub source_byte : Source → ℕ
-source_byte Clock = 0
-source_byte Air = 1
 
 abbrev pub encoded : Source → List ℕ → List ℕ
 encoded s b = source_byte s ∷ (length b / 256) ∷ (length b % 256) ∷ b

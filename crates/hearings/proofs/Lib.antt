@@ -1,3 +1,2 @@
 pub mod Among
 pub mod Heard
-pub mod Air

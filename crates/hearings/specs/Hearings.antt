@@ -21,7 +21,7 @@ hearing_of h = record { receiver = h.receiver; outcome = meant h.outcome; delive
 abbrev pub heard_by : (said : List Said) → (number : ℕ) → (bytes : List ℕ) → Receiver → Heard
 heard_by ss n b r = record { receiver = n; outcome = outcome_of (params_of r) (from_air b) (state_of r); deliveries = marked ss (delivered_of (params_of r) (from_air b) (state_of r)) }
 
-unfoldable pub hearings_of : List Hearing → List Heard
+abbrev pub hearings_of : List Hearing → List Heard
 hearings_of hs = map hearing_of hs
 
 -- every receiver, the first of which has this number

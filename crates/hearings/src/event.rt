@@ -2,18 +2,18 @@
 use receiver::outcome::Outcome;
 use timing::refusal::Refusal;
 
-#[derive(Drop)]
+#[derive(PartialEq, Eq, Drop)]
 pub struct Saying {
     pub interval: u16,
     pub index: u8,
     pub text: Vec<u8>,
 }
 
-// What a receiver delivers, and whether the play's sender said it before.
+// What a receiver delivers, by whether the play's sender said it before.
 #[derive(Drop)]
-pub struct Delivery {
-    pub saying: Saying,
-    pub said: bool,
+pub enum Delivery {
+    Said(Saying),
+    NotSaid(Saying),
 }
 
 // What one receiver makes of bytes that are brought to it; receivers count from 1.

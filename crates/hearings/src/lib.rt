@@ -3,5 +3,8 @@
 
 pub mod event;
 pub mod hearing;
+pub mod place;
 pub mod said;
 pub mod sent;
+#[cfg(test)]
+mod tests;

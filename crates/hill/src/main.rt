@@ -4,19 +4,22 @@
 mod report;
 mod show;
 
-use anyhow::anyhow;
-use report::show_play;
-use show::show_script;
+use anyhow::ensure;
+use report::{Faulty, Report};
+use show::{Heard, show};
 use simulation::mode::is_play;
 use std::io::Read;
 use std::{env, fs, io};
+use timing::refusal::Refusal;
 
 // A script of either mode; whether it was played.
 fn show_either(rt: &HostRuntime, name: &str, script: &[u8]) -> io::Result<bool> {
     if is_play(script) {
-        show_play(rt, name, script)
+        let played = simulation::play::play(rt.alloc(), script);
+        show::<Report, Faulty>(rt, name, played.map(Report))
     } else {
-        show_script(rt, name, script)
+        let played = scenario::play::play(rt.alloc(), script);
+        show::<Heard, Refusal>(rt, name, played.map(Heard))
     }
 }
 
@@ -40,21 +43,18 @@ fn play_input(rt: &HostRuntime) -> io::Result<bool> {
 
 // Stops at the first script that is not played, unless it is to keep going.
 fn run(rt: &HostRuntime) -> anyhow::Result<()> {
-    let mut words = env::args(rt)?.skip(1).peekable();
-    let keep_going = matches!(words.peek(), Some(word) if word.as_str() == "--keep-going");
-    if keep_going {
-        let _ = words.next();
+    let mut names = env::args(rt)?.skip(1).peekable();
+    let keep_going = names
+        .next_if(|word| word.as_str() == "--keep-going")
+        .is_some();
+    if names.peek().is_none() {
+        ensure!(play_input(rt)? || keep_going, "\"a script was not played\"");
     }
-    if words.peek().is_none() {
-        if !play_input(rt)? && !keep_going {
-            return Err(anyhow!("\"a script was not played\""));
-        }
-        return Ok(());
-    }
-    for name in words {
-        if !play_file(rt, name.as_str())? && !keep_going {
-            return Err(anyhow!("\"a script was not played\""));
-        }
+    for name in names {
+        ensure!(
+            play_file(rt, name.as_str())? || keep_going,
+            "\"a script was not played\""
+        );
     }
     Ok(())
 }

@@ -1,155 +1,175 @@
 // What is printed of a play.
-use crate::show::{reason, show_fault};
 use hearings::event::{Deed, Delivery, Event, Hearing, Sent};
 use receiver::outcome::Outcome;
-use scenario::error::Error;
 use simulation::counts::Counts;
-use simulation::play::play;
-use std::alloc::{AllocError, Global};
-use std::io;
-use timing::refusal::Refusal;
+use std::fmt;
+use timing::refusal::{Refusal, number_of};
 
 // A text with every byte that is not printed as \xHH.
-fn shown(heap: Global, text: &[u8]) -> Result<String, AllocError> {
-    let mut s = String::new(heap);
-    for b in text {
-        if *b >= 32 && *b < 127 && *b != b'\\' {
-            s.push(char::from(*b))?;
-        } else {
-            let escape = format!(in heap; "\\x{b:02x}")?;
-            s.push_str(escape.as_str())?;
+#[derive(Drop)]
+struct Text<'a>(&'a [u8]);
+
+impl fmt::Display for Text<'_> {
+    fn fmt<W: fmt::Write>(&self, f: &mut fmt::Formatter<W>) -> fmt::Result {
+        for b in self.0 {
+            if (b' '..=b'~').contains(b) && *b != b'\\' {
+                f.write_char(char::from(*b))?;
+            } else {
+                write!(f, "\\x{b:02x}")?;
+            }
+        }
+        Ok(())
+    }
+}
+
+// Why a receiver or the sender refuses.
+#[derive(Drop)]
+struct Refused(Refusal);
+
+impl fmt::Display for Refused {
+    fn fmt<W: fmt::Write>(&self, f: &mut fmt::Formatter<W>) -> fmt::Result {
+        match &self.0 {
+            Refusal::Malformed => f.write_str("unknown kind or bad length"),
+            Refusal::OutOfRange => f.write_str("interval or index out of range"),
+            other => write!(f, "{other}"),
         }
     }
-    Ok(s)
 }
 
-fn refused_for(refusal: Refusal) -> &'static str {
-    match refusal {
-        Refusal::Malformed => "unknown kind or bad length",
-        Refusal::OutOfRange => "interval or index out of range",
-        other => reason(other),
+// Why a line of a play is at fault.
+#[derive(Drop)]
+pub struct Faulty(pub Refusal);
+
+impl From<Refusal> for Faulty {
+    fn from(refusal: Refusal) -> Faulty {
+        Faulty(refusal)
     }
 }
 
-fn fault_for(refusal: Refusal) -> &'static str {
-    match refusal {
-        Refusal::OutOfRange => "a record, a receiver or a count out of range",
-        Refusal::ClockBack => "time or a clock that goes back",
-        other => reason(other),
+impl fmt::Display for Faulty {
+    fn fmt<W: fmt::Write>(&self, f: &mut fmt::Formatter<W>) -> fmt::Result {
+        match &self.0 {
+            Refusal::OutOfRange => f.write_str("a record, a receiver or a count out of range"),
+            Refusal::ClockBack => f.write_str("time or a clock that goes back"),
+            other => write!(f, "{other}"),
+        }
     }
 }
 
-fn outcome(outcome: Outcome) -> &'static str {
-    match outcome {
-        Outcome::Told => "told",
-        Outcome::Buffered => "buffered",
-        Outcome::Already => "buffered already",
-        Outcome::Taken => "key taken",
-        Outcome::Refused(refusal) => refused_for(refusal),
+// What bytes come to at a receiver.
+#[derive(Drop)]
+struct ComesTo(Outcome);
+
+impl fmt::Display for ComesTo {
+    fn fmt<W: fmt::Write>(&self, f: &mut fmt::Formatter<W>) -> fmt::Result {
+        match self.0 {
+            Ok(accepted) => write!(f, "{accepted}"),
+            Err(e) => {
+                let e = Refused(e);
+                write!(f, "{e}")
+            }
+        }
     }
 }
 
-fn show_sent(rt: &HostRuntime, line: u64, number: u64, sent: &Sent) -> io::Result<()> {
+fn write_sent<W: fmt::Write>(
+    f: &mut fmt::Formatter<W>,
+    line: u64,
+    number: u64,
+    sent: &Sent,
+) -> fmt::Result {
     match sent {
         Sent::Message { saying, disclosed } => {
             let interval = saying.interval;
             let index = saying.index;
-            let text = shown(rt.alloc(), saying.text.as_slice())?;
+            let text = Text(saying.text.as_slice());
             if *disclosed == 0 {
-                return println!(rt;
+                return writeln!(
+                    f,
                     "{line:>6} {number:>7}         -  message {interval}.{index}, no key: {text}"
                 );
             }
-            println!(rt;
+            writeln!(
+                f,
                 "{line:>6} {number:>7}         -  message {interval}.{index}, key {disclosed}: {text}"
             )
         }
-        Sent::Key { interval } => {
-            println!(rt; "{line:>6} {number:>7}         -  key {interval}")
-        }
+        Sent::Key { interval } => { writeln!(f, "{line:>6} {number:>7}         -  key {interval}") }
     }
 }
 
-fn show_delivery(rt: &HostRuntime, delivery: &Delivery) -> io::Result<()> {
-    let interval = delivery.saying.interval;
-    let index = delivery.saying.index;
-    let said = if delivery.said { "said" } else { "NOT SAID" };
-    let text = shown(rt.alloc(), delivery.saying.text.as_slice())?;
-    println!(rt; "                            delivered {interval}.{index}, {said}: {text}")
+fn write_delivery<W: fmt::Write>(f: &mut fmt::Formatter<W>, delivery: &Delivery) -> fmt::Result {
+    let (said, saying) = match delivery {
+        Delivery::Said(saying) => ("said", saying),
+        Delivery::NotSaid(saying) => ("NOT SAID", saying),
+    };
+    let interval = saying.interval;
+    let index = saying.index;
+    let text = Text(saying.text.as_slice());
+    writeln!(
+        f,
+        "                            delivered {interval}.{index}, {said}: {text}"
+    )
 }
 
-fn show_hearing(
-    rt: &HostRuntime,
+fn write_hearing<W: fmt::Write>(
+    f: &mut fmt::Formatter<W>,
     line: u64,
     record: Option<u64>,
     hearing: &Hearing,
-) -> io::Result<()> {
+) -> fmt::Result {
     let receiver = hearing.receiver;
-    let number = hearing.outcome.number();
-    let what = outcome(hearing.outcome);
+    let number = number_of(&hearing.outcome);
+    let what = ComesTo(hearing.outcome);
     match record {
-        Some(record) => println!(rt; "{line:>6} {record:>7} {receiver:>9}  {number} {what}")?,
-        None => println!(rt; "{line:>6}       - {receiver:>9}  {number} {what}")?,
+        Some(record) => writeln!(f, "{line:>6} {record:>7} {receiver:>9}  {number} {what}")?,
+        None => writeln!(f, "{line:>6}       - {receiver:>9}  {number} {what}")?,
     }
     for delivery in hearing.deliveries.iter() {
-        show_delivery(rt, delivery)?;
+        write_delivery(f, delivery)?;
     }
     Ok(())
 }
 
-fn show_event(rt: &HostRuntime, event: &Event) -> io::Result<()> {
+fn write_event<W: fmt::Write>(f: &mut fmt::Formatter<W>, event: &Event) -> fmt::Result {
     let line = event.line;
     match &event.deed {
-        Deed::Sent { number, sent } => show_sent(rt, line, *number, sent),
+        Deed::Sent { number, sent } => write_sent(f, line, *number, sent),
         Deed::NotSaid(refusal) => {
-            let number = refusal.number();
-            let why = refused_for(*refusal);
-            println!(rt; "{line:>6}       -         -  {number} not said: {why}")
+            let number = u8::from(*refusal);
+            let why = Refused(*refusal);
+            writeln!(f, "{line:>6}       -         -  {number} not said: {why}")
         }
         Deed::Brought { record, hearings } => {
             for hearing in hearings.iter() {
-                show_hearing(rt, line, *record, hearing)?;
+                write_hearing(f, line, *record, hearing)?;
             }
             Ok(())
         }
     }
 }
 
-fn show_counts(rt: &HostRuntime, counts: Counts) -> io::Result<()> {
-    let sent = counts.sent;
-    let not_said = counts.not_said;
-    let brought = counts.brought;
-    let refused = counts.refused;
-    let delivered = counts.delivered;
-    let said = counts.said;
-    println!(rt;
-        "  {sent} sent ({not_said} not said), {brought} brought ({refused} refused), {delivered} delivered ({said} said)"
-    )
-}
+// What happens in a play, event by event, and how much.
+#[derive(Drop)]
+pub struct Report(pub Vec<Event>);
 
-fn show_events(rt: &HostRuntime, name: &str, events: &[Event]) -> io::Result<()> {
-    println!(rt; "{name}")?;
-    println!(rt; "  line  record  receiver  comes to")?;
-    for event in events {
-        show_event(rt, event)?;
-    }
-    show_counts(rt, Counts::of(events))
-}
-
-// Plays a play, and prints what happens or its fault; whether it was played.
-pub fn show_play(rt: &HostRuntime, name: &str, script: &[u8]) -> io::Result<bool> {
-    match play(rt.alloc(), script) {
-        Ok(events) => {
-            show_events(rt, name, events.as_slice())?;
-            Ok(true)
+impl fmt::Display for Report {
+    fn fmt<W: fmt::Write>(&self, f: &mut fmt::Formatter<W>) -> fmt::Result {
+        writeln!(f, "  line  record  receiver  comes to")?;
+        for event in self.0.iter() {
+            write_event(f, event)?;
         }
-        Err(Error::Faulty(fault)) => {
-            show_fault(rt, name, fault, fault_for(fault.refusal))?;
-            Ok(false)
-        }
-        Err(Error::NoMemory) => {
-            println!(rt; "{name}: no memory")?;
-            Ok(false)
-        }
+        let Counts {
+            sent,
+            not_said,
+            brought,
+            refused,
+            delivered,
+            said,
+        } = Counts::of(self.0.as_slice());
+        writeln!(
+            f,
+            "  {sent} sent ({not_said} not said), {brought} brought ({refused} refused), {delivered} delivered ({said} said)"
+        )
     }
 }

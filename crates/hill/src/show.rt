@@ -1,69 +1,66 @@
-// What is printed of a script.
+// What is printed of a script that goes by time alone, and of what a script of either mode comes to.
 use scenario::arrival::Arrival;
-use scenario::error::{Error, Fault};
-use scenario::play::play;
-use std::io;
-use timing::refusal::Refusal;
-use timing::safety::Judgement;
+use script::error::{Error, Fault};
+use std::{fmt, io};
+use timing::refusal::{Refusal, number_of};
 
-pub fn reason(refusal: Refusal) -> &'static str {
-    match refusal {
-        Refusal::Malformed => "not a command in its form and place",
-        Refusal::OutOfRange => "an interval, a receiver or a count out of range",
-        Refusal::TooLate => "too late",
-        Refusal::KeyHad => "a message whose key is had",
-        Refusal::TooEarly => "too early",
-        Refusal::NoRoom => "no room in the buffer",
-        Refusal::KeyNotAfter => "a key not after the newest",
-        Refusal::KeyTooFar => "a key too far ahead",
-        Refusal::KeyMisfit => "a key that does not fit",
-        Refusal::ClockBack => "a clock that goes back",
-        Refusal::BadSettings => "settings out of range",
+// What a message comes to by time alone.
+#[derive(Drop)]
+struct Judged(Result<(), Refusal>);
+
+impl fmt::Display for Judged {
+    fn fmt<W: fmt::Write>(&self, f: &mut fmt::Formatter<W>) -> fmt::Result {
+        match &self.0 {
+            Ok(()) => f.write_str("kept"),
+            Err(e) => write!(f, "{e}"),
+        }
     }
 }
 
-fn outcome(judgement: Judgement) -> &'static str {
-    match judgement {
-        Judgement::InTime => "kept",
-        Judgement::TooLate => "too late",
-        Judgement::TooEarly => "too early",
+// What messages come to at receivers.
+#[derive(Drop)]
+pub struct Heard(pub Vec<Arrival>);
+
+impl fmt::Display for Heard {
+    fn fmt<W: fmt::Write>(&self, f: &mut fmt::Formatter<W>) -> fmt::Result {
+        writeln!(
+            f,
+            "  line  interval  receiver                 clock  comes to"
+        )?;
+        for arrival in self.0.iter() {
+            let Arrival {
+                line,
+                interval,
+                receiver,
+                clock,
+                judgement,
+            } = *arrival;
+            let number = number_of(&judgement);
+            let comes_to = Judged(judgement);
+            writeln!(
+                f,
+                "{line:>6} {interval:>9} {receiver:>9} {clock:>21}  {number} {comes_to}"
+            )?;
+        }
+        Ok(())
     }
 }
 
-pub fn show_fault(rt: &HostRuntime, name: &str, fault: Fault, why: &str) -> io::Result<()> {
-    let line = fault.line;
-    let number = fault.refusal.number();
-    println!(rt; "{name}: line {line}: refused {number}: {why}")
-}
-
-fn show_arrival(rt: &HostRuntime, arrival: Arrival) -> io::Result<()> {
-    let line = arrival.line;
-    let interval = arrival.interval;
-    let receiver = arrival.receiver;
-    let clock = arrival.clock;
-    let number = arrival.judgement.number();
-    let comes_to = outcome(arrival.judgement);
-    println!(rt; "{line:>6} {interval:>9} {receiver:>9} {clock:>21}  {number} {comes_to}")
-}
-
-fn show_heard(rt: &HostRuntime, name: &str, heard: &[Arrival]) -> io::Result<()> {
-    println!(rt; "{name}")?;
-    println!(rt; "  line  interval  receiver                 clock  comes to")?;
-    for arrival in heard {
-        show_arrival(rt, *arrival)?;
-    }
-    Ok(())
-}
-
-// Plays a script, and prints what its messages come to or its fault; whether it was played.
-pub fn show_script(rt: &HostRuntime, name: &str, script: &[u8]) -> io::Result<bool> {
-    match play(rt.alloc(), script) {
-        Ok(heard) => {
-            show_heard(rt, name, heard.as_slice())?;
+// Prints what a script was played into, or its fault with why it is one; whether it was played.
+pub fn show<P: fmt::Display + Drop, W: From<Refusal> + fmt::Display + Drop>(
+    rt: &HostRuntime,
+    name: &str,
+    played: Result<P, Error>,
+) -> io::Result<bool> {
+    match played {
+        Ok(played) => {
+            print!(rt; "{name}\n{played}")?;
             Ok(true)
         }
-        Err(Error::Faulty(fault)) => {
-            show_fault(rt, name, fault, reason(fault.refusal))?;
+        Err(Error::Faulty(Fault { line, refusal })) => {
+            let number = u8::from(refusal);
+            let why = W::from(refusal);
+            println!(rt; "{name}: line {line}: refused {number}: {why}")?;
             Ok(false)
         }
         Err(Error::NoMemory) => {

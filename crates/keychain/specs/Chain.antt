@@ -1,8 +1,9 @@
 -- The model's key chain and tags with HMAC-SHA-256 in place.
-use Rattle.std.specs.Prelude.{◌≡◌, ℕ, ◌-◌, ◌<◌, cond, List, [], ◌∷◌, replicate, Ok, Err, Result, nat_lt, slice_index, slice_index_or}
+use Rattle.std.specs.Prelude.{◌≡◌, ℕ, ◌+◌, ◌-◌, ◌<◌, cond, List, [], ◌∷◌, replicate, Ok, Err, Result, nat_le, nat_lt, slice_index, slice_index_or}
 use Rattle.sha256.specs.Hmac.{hmac}
 use Rattle.timing.specs.Time.{Params}
 use Rattle.timing.specs.declared.refusal.Refusal.{Refusal}
+use Rattle.timing.specs.declared.refusal.Refusal.TheVariants.{KeyNotAfter, KeyTooFar}
 use Rattle.model.specs.Term.{Bytes, val}
 use Rattle.model.specs.Receiver.{Said, Outcome, taken, refused, message_bytes, walked, tag_bytes}
 use Rattle.model.specs.Run.{key_term, tag_of}
@@ -18,6 +19,10 @@ key_down n k = walked hmac n k
 
 abbrev pub tagged : (key text : List ℕ) → List ℕ
 tagged k t = tag_bytes hmac k t
+
+-- how many intervals after the newest key's one the interval lies: so many keys are worked out
+abbrev pub ahead : (interval newest : ℕ) → Result ℕ Refusal
+ahead j n = cond (nat_le j n) (Err KeyNotAfter) (cond (nat_lt (n + 1024) j) (Err KeyTooFar) (Ok (j - n)))
 
 -- what a walk's result is called in the model
 abbrev pub walk_outcome_of : Result Unit Refusal → Outcome

@@ -1,9 +1,10 @@
 // The key chain in bytes: one step down, MAC keys and tags, and the walk down to a key that is had.
 #![tactic(auto)]
 
-ghost use Rattle.std.specs.Prelude.{◌≡◌, ℕ, ◌<◌, ◌≤◌, List, [], ◌∷◌, ◌≢◌, slice_index, slice_index_or};
-ghost use Rattle.keychain.specs.Chain.{stepped, key_down, tagged, absent_key, zero_key, walk_outcome_of, Collected, ChainTerms};
-ghost use Rattle.model.specs.Receiver.{judge_walk, walk_steps};
+ghost use Rattle.std.specs.Prelude.{◌≡◌, ℕ, ◌<◌, List, [], ◌∷◌, ◌≢◌, cond, not, replicate, slice_index, slice_index_or};
+ghost use Rattle.keychain.specs.Chain.{stepped, key_down, tagged, absent_key, zero_key, ahead, walk_outcome_of, Collected, ChainTerms};
+ghost use Rattle.model.specs.Receiver.{judge_walk, walk_steps, refused, taken};
+ghost use Rattle.timing.specs.declared.refusal.Refusal.TheVariants.{KeyMisfit};
 ghost use Rattle.sha256.specs.Hmac.{hmac};
 ghost use Rattle.std.specs.Str.{bytes_eq};
 
@@ -14,20 +15,16 @@ pub mod key;
 
 use crate::key::Key;
 
-// A message waits at each of this many places.
+// A message waits at each of this many places. The keys for them and what they want are arrays of this size: fixed memory.
 pub const PLACES: usize = 64;
 
 // The most steps that are worked out for one key.
 pub const MOST_STEPS: u32 = 1024;
 
-// Whether two byte strings are the same.
-pub fn same_bytes(a: &[u8], b: &[u8]) -> bool
-    ensures { result ≡ bytes_eq a.now b.now }
-{
-    a == b
-}
-
 impl Key {
+    // What stands where no key is wanted.
+    pub const ZERO: Key = Key { bytes: [0; 32] };
+
     // The key of the interval before.
     pub fn previous(self) -> Key
         ensures { result.bytes ≡ stepped self.bytes }
@@ -42,6 +39,7 @@ impl Key {
     {
         let mac_key = hmac_sha256(&self.bytes, &[2]);
         let mac = hmac_sha256(&mac_key, text);
+        // `try_from` would be no plainer: its result would have to be unwrapped.
         let mut tag = [0u8; 16];
         tag.copy_from_slice(&mac[0..16]);
         tag
@@ -52,13 +50,7 @@ impl Key {
         ensures { result ≡ bytes_eq tag.now (tagged self.bytes text.now) }
     {
         let right = self.tag(text);
-        same_bytes(tag, &right)
-    }
-
-    fn same(self, other: Key) -> bool
-        ensures { result ≡ bytes_eq self.bytes other.bytes }
-    {
-        same_bytes(&self.bytes, &other.bytes)
+        tag == right.as_slice()
     }
 }
 
@@ -70,78 +62,80 @@ pub struct Walked {
     pub keys: [Key; PLACES],
 }
 
-fn no_keys() -> [Key; PLACES]
-    ensures { (i : ℕ) → i < 64 → slice_index_or result i absent_key ≡ zero_key }
-{
-    [Key { bytes: [0; 32] }; PLACES]
-}
-
 // Writes the key to each place that wants the key so many intervals before.
 fn put_key(before: u32, key: Key, wanted: &[u32; PLACES], keys: &mut [Key; PLACES])
     ensures put { (i : ℕ) → i < 64 → slice_index wanted.now i ≡ before → slice_index_or keys.new i absent_key ≡ key }
     ensures left { (i : ℕ) → i < 64 → (slice_index wanted.now i ≢ before) → slice_index_or keys.new i absent_key ≡ slice_index_or keys.old i absent_key }
 {
-    for i in 0..PLACES {
-        if wanted[i] == before {
+    // By place, not `keys.iter_mut().zip(wanted)`: tried, and no invariant can name the keys while that lends them.
+    for (i, w) in wanted.iter().enumerate() {
+        if *w == before {
             keys[i] = key;
         }
     }
 }
 
-// Works out the n keys before `key`, notes those that are wanted, and compares the last with the key that is had.
-fn walk_down(key: Key, n: u32, had: Key, wanted: &[u32; PLACES]) -> (bool, [Key; PLACES])
-    ensures fits { result.0 ≡ bytes_eq (key_down n key.bytes) had.bytes }
-    ensures keys { Collected n key.bytes wanted.now result.1 }
+// How many intervals a key lies after the newest key: the keys that have to be worked out for it.
+fn ahead_of(interval: u32, newest: u32) -> Result<u32, Refusal>
+    ensures { result ≡ ahead interval newest }
 {
-    let mut keys = no_keys();
+    if interval <= newest {
+        return Err(Refusal::KeyNotAfter);
+    }
+    let ahead = interval - newest;
+    if ahead > MOST_STEPS {
+        return Err(Refusal::KeyTooFar);
+    }
+    Ok(ahead)
+}
+
+// Works out the n keys before `key`, notes those that are wanted, and compares the last with the key that is had.
+#[tactic(auto, using(crate::proofs::Chains::down_more))]
+fn walk_down(
+    key: Key,
+    n: u32,
+    had: Key,
+    wanted: &[u32; PLACES],
+    keys: &mut [Key; PLACES],
+) -> Result<(), Refusal>
+    requires { keys.old ≡ replicate 64 zero_key }
+    ensures fits { walk_outcome_of result ≡ cond (not (bytes_eq (key_down n key.bytes) had.bytes)) (refused KeyMisfit) taken }
+    ensures keys { Collected n key.bytes wanted.now keys.new }
+{
     let mut k = key;
-    let mut i = 0;
-    let fits;
-    'walk: loop {
-        if i == n {
-            fits = k.same(had);
+    // A loop left by its label: the project asks for this form here.
+    'walk: for before in 0.. {
+        if before == n {
             break 'walk;
         }
-        put_key(i, k, wanted, &mut keys);
+        put_key(before, k, wanted, keys);
         k = k.previous();
-        i += 1;
     }
-    (fits, keys)
+    if k == had {
+        Ok(())
+    } else {
+        Err(Refusal::KeyMisfit)
+    }
 }
 
 // A key said to be of an interval, against the key that is had of the newest interval.
 // `wanted` has for each place how many intervals before that of the key the one lies whose key is wanted there.
+// Key and interval stay two parameters: a struct for the pair would be made for this one call alone.
 pub fn walk(key: Key, interval: u32, newest: u32, had: Key, wanted: &[u32; PLACES]) -> Walked
     ensures outcome { walk_outcome_of result.outcome ≡ judge_walk hmac interval key.bytes newest had.bytes }
     ensures steps { result.steps ≡ walk_steps interval newest }
     ensures keys { Collected (walk_steps interval newest) key.bytes wanted.now result.keys }
 {
-    if interval <= newest {
-        return Walked {
-            outcome: Err(Refusal::KeyNotAfter),
-            steps: 0,
-            keys: no_keys(),
-        };
-    }
-    let ahead = interval - newest;
-    if ahead > MOST_STEPS {
-        return Walked {
-            outcome: Err(Refusal::KeyTooFar),
-            steps: 0,
-            keys: no_keys(),
-        };
-    }
-    let (fits, keys) = walk_down(key, ahead, had, wanted);
-    if !fits {
-        return Walked {
-            outcome: Err(Refusal::KeyMisfit),
-            steps: ahead,
-            keys,
-        };
-    }
+    let mut keys = [Key::ZERO; PLACES];
+    let ahead = ahead_of(interval, newest);
+    // Not `ahead.and_then(..)`: tried, and nothing is known of the keys after a closure that writes them.
+    let outcome = match ahead {
+        Ok(n) => walk_down(key, n, had, wanted, &mut keys),
+        Err(e) => Err(e),
+    };
     Walked {
-        outcome: Ok(()),
-        steps: ahead,
+        outcome,
+        steps: ahead.unwrap_or(0),
         keys,
     }
 }

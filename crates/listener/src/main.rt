@@ -8,13 +8,13 @@ use buffer::room::Buffer;
 use frames::head;
 use frames::head::{Head, Source};
 use receiver::calls::{hear_air, hear_clock};
+use receiver::outcome::Outcome;
 use receiver::state::Receiver;
 use std::io;
 use std::io::{Read, Write};
-use wire::said::Said;
 use wire::{delivery, settings};
 
-// Reads until the memory is full or the input ends: how many bytes came.
+// Reads until the memory is full or the input ends: how many bytes came. A cursor, since `read_exact` doesn't tell how many.
 fn fill(rt: &HostRuntime, b: &mut [u8]) -> io::Result<usize>
     ensures { IfOk result (λ n. n ≤ length b.old) }
 {
@@ -32,35 +32,29 @@ fn fill(rt: &HostRuntime, b: &mut [u8]) -> io::Result<usize>
 // The deliveries as records, at once.
 fn hand_out(rt: &HostRuntime, out: &Buffer) -> io::Result<()> {
     let mut record = [0u8; 256];
-    for i in 0..out.len {
-        let m = out.messages[i];
-        let said = Said {
-            interval: m.numbers.interval,
-            index: m.numbers.index,
-            text: &m.text[0..m.numbers.len as usize],
-        };
-        if let Ok(count) = delivery::write(said, &mut record) {
-            if count <= 256 {
-                rt.stdout().write_all(&record[0..count])?;
-            }
+    for m in out.messages() {
+        if let Ok(count) = delivery::write(m.said(), &mut record)
+            && let Some(bytes) = record.get(..count)
+        {
+            rt.stdout().write_all(bytes)?;
         }
     }
     rt.stdout().flush()
 }
 
 // What the bytes of a frame come to; a tick is taken from a frame of the clock alone.
-fn hear(r: &mut Receiver, source: Source, bytes: &[u8], out: &mut Buffer) -> u8 {
+fn hear(r: &mut Receiver, source: Source, bytes: &[u8], out: &mut Buffer) -> Outcome {
     match source {
         Source::Clock => {
             out.clear();
-            hear_clock(r, bytes).number()
+            hear_clock(r, bytes)
         }
-        Source::Air => hear_air(r, bytes, out).outcome.number(),
+        Source::Air => hear_air(r, bytes, out).outcome,
     }
 }
 
 // A frame at fault ends the input; all before it stands.
-fn fault(rt: &HostRuntime, n: u64, why: &str) -> anyhow::Result<()> {
+fn fault<T>(rt: &HostRuntime, n: u64, why: &str) -> anyhow::Result<T> {
     eprintln!(rt; "frame {n}: refused 1: {why}")?;
     Err(anyhow!("\"the input was not read to its end\""))
 }
@@ -68,41 +62,34 @@ fn fault(rt: &HostRuntime, n: u64, why: &str) -> anyhow::Result<()> {
 // The head of the next frame; none at the end of the input.
 fn next_head(rt: &HostRuntime, n: u64) -> anyhow::Result<Option<Head>> {
     let mut b = [0u8; 3];
-    let count = fill(rt, &mut b)?;
-    if count == 0 {
-        return Ok(None);
+    match fill(rt, &mut b)? {
+        0 => Ok(None),
+        3 => match head::read(b) {
+            Ok(h) => Ok(Some(h)),
+            Err(_) => fault(rt, n, "an unknown source"),
+        },
+        _ => fault(rt, n, "a frame that is cut"),
     }
-    if count < 3 {
-        fault(rt, n, "a frame that is cut")?;
-    }
-    let Ok(h) = head::read(b) else {
-        fault(rt, n, "an unknown source")?;
-        return Ok(None);
-    };
-    Ok(Some(h))
 }
 
-// One frame; false at the end of the input.
+// One frame, behind its head.
 fn take_frame(
     rt: &HostRuntime,
     n: u64,
+    source: Source,
     r: &mut Receiver,
-    bytes: &mut [u8; 65535],
+    bytes: &mut [u8],
     out: &mut Buffer,
-) -> anyhow::Result<bool> {
-    let Some(h) = next_head(rt, n)? else {
-        return Ok(false);
-    };
-    let len = usize::from(h.len);
-    if fill(rt, &mut bytes[0..len])? < len {
-        fault(rt, n, "a frame that is cut")?;
+) -> anyhow::Result<()> {
+    if fill(rt, bytes)? < bytes.len() {
+        return fault(rt, n, "a frame that is cut");
     }
-    let number = hear(r, h.source, &bytes[0..len], out);
-    if number != 0 {
+    if let Err(e) = hear(r, source, bytes, out) {
+        let number = u8::from(e);
         eprintln!(rt; "frame {n}: refused {number}")?;
     }
     hand_out(rt, out)?;
-    Ok(true)
+    Ok(())
 }
 
 fn run(rt: &HostRuntime) -> anyhow::Result<()> {
@@ -111,7 +98,7 @@ fn run(rt: &HostRuntime) -> anyhow::Result<()> {
     let s = match settings::read(&b[0..count]) {
         Ok(s) => s,
         Err(e) => {
-            let number = e.number();
+            let number = u8::from(e);
             eprintln!(rt; "settings: refused {number}")?;
             return Err(anyhow!("\"no settings\""));
         }
@@ -120,9 +107,11 @@ fn run(rt: &HostRuntime) -> anyhow::Result<()> {
     let mut out = Buffer::new();
     let mut bytes = [0u8; 65535];
     for n in 1..u64::MAX {
-        if !take_frame(rt, n, &mut r, &mut bytes, &mut out)? {
+        let Some(h) = next_head(rt, n)? else {
             break;
-        }
+        };
+        let frame = &mut bytes[..usize::from(h.len)];
+        take_frame(rt, n, h.source, &mut r, frame, &mut out)?;
     }
     Ok(())
 }

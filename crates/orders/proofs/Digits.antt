@@ -1,41 +1,48 @@
--- The bytes of a word in hexadecimal, two digits at a time.
-use Rattle.std.proofs.Common.{◌≡◌, ℕ, ◌+◌, ◌-◌, ◌*◌, ◌<◌, Bool, true, false, eqb, List, [], ◌∷◌, ◌++◌, length, get_or, take, drop, Some, None, Ok, Err, Result, sym, refl, ap, ◌∙◌, append_assoc, append-nil, arith}
-use Rattle.std.proofs.lemmas.List.{nil_from_length, take_rest}
-use Rattle.std.proofs.lemmas.Bool.{eqb-true}
+-- Bytes in hexadecimal, one pair of digits at a time.
+use Rattle.std.proofs.Common.{◌≡◌, ℕ, ◌+◌, ◌<◌, min, List, [], ◌∷◌, ◌++◌, length, Some, None, Option, Ok, Err, Result, sym, refl, ap, ◌∙◌, append_assoc, append-nil, arith, length-append}
+use Rattle.std.proofs.lemmas.List.{nil_from_length}
 use Rattle.timing.specs.declared.refusal.Refusal.{Refusal}
 use Rattle.timing.specs.declared.refusal.Refusal.TheVariants.{Malformed}
 use Rattle.script.proofs.Numbers.{ahead}
-use Rattle.orders.specs.Hex.{hex_digit, and_byte, hex_bytes}
+use Rattle.orders.specs.Hex.{hex_digit, and_byte, hex_bytes, of_digits, byte_of}
 
-step : (xs : List ℕ) (h l : ℕ) (r : Result (List ℕ) Refusal) → ahead xs (and_byte (Some h) (Some l) r) ≡ ahead (xs ++ (h * 16 + l) ∷ []) r
-step xs h l (Ok bs) = ap Ok (sym (append_assoc xs ((h * 16 + l) ∷ []) bs))
-step xs h l (Err e) = refl
+-- a chunk of two digits, or of the one that is left over
+pub record Chunk (s pair rest : List ℕ) : Type 0 where
+  pub parts : s ≡ pair ++ rest
+  pub size : length pair ≡ min 2 (length s)
+  pub some : 0 < length s
 
-pub byte_more : (xs s r : List ℕ) (a b h l : ℕ) → s ≡ a ∷ b ∷ r → Some h ≡ hex_digit a → Some l ≡ hex_digit b → ahead xs (hex_bytes s) ≡ ahead (xs ++ (h * 16 + l) ∷ []) (hex_bytes r)
+abbrev next : Option ℕ → Result (List ℕ) Refusal → Result (List ℕ) Refusal
+next None r = Err Malformed
+next (Some b) (Ok bs) = Ok (b ∷ bs)
+next (Some b) (Err e) = Err e
+
+both : (h l : Option ℕ) (r : Result (List ℕ) Refusal) → and_byte h l r ≡ next (of_digits h l) r
+both None l r = refl
+both (Some h) None r = refl
+both (Some h) (Some l) (Ok bs) = refl
+both (Some h) (Some l) (Err e) = refl
+
+chunk : (s pair rest : List ℕ) → Chunk s pair rest → hex_bytes s ≡ next (byte_of pair) (hex_bytes rest)
 unfolding hex_bytes
-byte_more xs s r a b h l i e f =
-    ap (λ x. ahead xs (hex_bytes x)) i ∙ ap (λ o. ahead xs (and_byte o (hex_digit b) (hex_bytes r))) (sym e) ∙ ap (λ o. ahead xs (and_byte (Some h) o (hex_bytes r))) (sym f) ∙ step xs h l (hex_bytes r)
+chunk s [] rest c = absurd (omega (arith, c.size, c.some))
+chunk s (h ∷ []) rest c =
+    let whole : length s ≡ 1 + length rest = ap length c.parts ∙ length-append (h ∷ []) rest in
+    let none : rest ≡ [] = nil_from_length rest (omega (arith, c.size, whole)) in
+    ap hex_bytes (c.parts ∙ ap (λ r. h ∷ r) none)
+chunk s (h ∷ l ∷ []) rest c = ap hex_bytes c.parts ∙ both (hex_digit h) (hex_digit l) (hex_bytes rest)
+chunk s (h ∷ l ∷ x ∷ r) rest c = absurd (omega (arith, c.size))
 
-pub high_bad : (xs s r : List ℕ) (a b : ℕ) → s ≡ a ∷ b ∷ r → None ≡ hex_digit a → ahead xs (hex_bytes s) ≡ Err Malformed
+step : (xs : List ℕ) (b : ℕ) (r : Result (List ℕ) Refusal) → ahead xs (next (Some b) r) ≡ ahead (xs ++ b ∷ []) r
+step xs b (Ok bs) = ap Ok (sym (append_assoc xs (b ∷ []) bs))
+step xs b (Err e) = refl
+
+pub byte_more : (xs s pair rest : List ℕ) (b : ℕ) → Chunk s pair rest → Some b ≡ byte_of pair → ahead xs (hex_bytes s) ≡ ahead (xs ++ b ∷ []) (hex_bytes rest)
+byte_more xs s pair rest b c e = ap (ahead xs) (chunk s pair rest c ∙ ap (λ o. next o (hex_bytes rest)) (sym e)) ∙ step xs b (hex_bytes rest)
+
+pub byte_bad : (xs s pair rest : List ℕ) → Chunk s pair rest → None ≡ byte_of pair → ahead xs (hex_bytes s) ≡ Err Malformed
+byte_bad xs s pair rest c e = ap (ahead xs) (chunk s pair rest c ∙ ap (λ o. next o (hex_bytes rest)) (sym e))
+
+pub none_left : (xs s : List ℕ) → length s ≡ 0 → ahead xs (hex_bytes s) ≡ Ok xs
 unfolding hex_bytes
-high_bad xs s r a b i e = ap (λ x. ahead xs (hex_bytes x)) i ∙ ap (λ o. ahead xs (and_byte o (hex_digit b) (hex_bytes r))) (sym e)
-
-pub low_bad : (xs s r : List ℕ) (a b h : ℕ) → s ≡ a ∷ b ∷ r → Some h ≡ hex_digit a → None ≡ hex_digit b → ahead xs (hex_bytes s) ≡ Err Malformed
-unfolding hex_bytes
-low_bad xs s r a b h i e f =
-    ap (λ x. ahead xs (hex_bytes x)) i ∙ ap (λ o. ahead xs (and_byte o (hex_digit b) (hex_bytes r))) (sym e) ∙ ap (λ o. ahead xs (and_byte (Some h) o (hex_bytes r))) (sym f)
-
-pub one_left : (xs r : List ℕ) → length r < 2 → eqb (length r) 0 ≡ false → ahead xs (hex_bytes r) ≡ Err Malformed
-unfolding hex_bytes
-one_left xs [] h e = let z : ◌≡◌ {A = Bool} true false = e in cc
-one_left xs (a ∷ []) h e = refl
-one_left xs (a ∷ b ∷ r) h e = absurd (omega (arith, h))
-
-pub none_left : (xs r : List ℕ) → eqb (length r) 0 ≡ true → ahead xs (hex_bytes r) ≡ Ok xs
-unfolding hex_bytes
-none_left xs r e = rw (nil_from_length r (eqb-true (length r) 0 e)) (ap Ok (append-nil xs))
-
-pub pair_is : (xs : List ℕ) → (length xs < 2 → ⊥) → xs ≡ get_or xs 0 0 ∷ get_or xs 1 0 ∷ take (length xs - 2) (drop 2 xs)
-pair_is [] h = absurd (h (omega arith))
-pair_is (a ∷ []) h = absurd (h (omega arith))
-pair_is (a ∷ b ∷ r) h = ap (λ x. a ∷ b ∷ x) (sym (take_rest (a ∷ b ∷ r) 2))
+none_left xs s e = rw (nil_from_length s e) (ap Ok (append-nil xs))

@@ -23,3 +23,15 @@ unfoldable pub hex_bytes : List ℕ → Result (List ℕ) Refusal
 hex_bytes [] = Ok []
 hex_bytes (h ∷ []) = Err Malformed
 hex_bytes (h ∷ l ∷ r) = and_byte (hex_digit h) (hex_digit l) (hex_bytes r)
+
+abbrev pub of_digits : (high low : Option ℕ) → Option ℕ
+of_digits None l = None
+of_digits (Some h) None = None
+of_digits (Some h) (Some l) = Some (h * 16 + l)
+
+-- the byte of two digits alone
+abbrev pub byte_of : (pair : List ℕ) → Option ℕ
+byte_of [] = None
+byte_of (h ∷ []) = None
+byte_of (h ∷ l ∷ []) = of_digits (hex_digit h) (hex_digit l)
+byte_of (h ∷ l ∷ x ∷ r) = None

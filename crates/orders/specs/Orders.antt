@@ -1,9 +1,9 @@
 -- A line of a play as an order.
-use Rattle.std.specs.Prelude.{ℕ, Bool, cond, List, [], ◌∷◌, ◌++◌, length, Some, None, Ok, Err, vec_items, codes, Option, Result, ◌==◌, nat_le, slice_index}
+use Rattle.std.specs.Prelude.{ℕ, cond, List, [], ◌∷◌, length, Some, None, Ok, Err, vec_items, codes, Option, Result, ◌==◌, nat_le, slice_index}
 use Rattle.std.specs.Str.{bytes_eq}
 use Rattle.timing.specs.declared.refusal.Refusal.{Refusal}
 use Rattle.timing.specs.declared.refusal.Refusal.TheVariants.{Malformed}
-use Rattle.script.specs.Text.{pieces, words, numbers, decimal}
+use Rattle.script.specs.Text.{words, word_of, rest_of, is_comment, numbers, decimal}
 use Rattle.orders.specs.declared.command.Command.{Command}
 use Rattle.orders.specs.declared.command.Command.TheVariants as command
 use Rattle.orders.specs.declared.command.Whom.{Whom}
@@ -30,7 +30,7 @@ pub data Order : Type 0 where
 
 abbrev pub meant : Command → Order
 meant command.Play = play
-meant (command.Settings s d e n) = settings s d e n
+meant (command.Settings s) = settings s.ticks s.delay s.error s.last
 meant (command.Drawn k) = drawn (vec_items k)
 meant (command.Receivers n) = receivers n
 meant (command.Time t) = time t
@@ -40,37 +40,6 @@ meant (command.Say t) = say (vec_items t)
 meant (command.Bring k w) = bring k w
 meant (command.Bytes w b) = bytes w (vec_items b)
 meant command.End = end
-
--- the pieces of a line from its first word on
-unfoldable pub from_word : List (List ℕ) → List (List ℕ)
-from_word [] = []
-from_word ([] ∷ ps) = from_word ps
-from_word ((b ∷ bs) ∷ ps) = (b ∷ bs) ∷ ps
-
--- pieces again as bytes, each behind a space (32)
-unfoldable pub spaced : List (List ℕ) → List ℕ
-spaced [] = []
-spaced (p ∷ ps) = 32 ∷ (p ++ spaced ps)
-
-abbrev pub behind_first : List ℕ → List ℕ
-behind_first [] = []
-behind_first (b ∷ bs) = bs
-
-abbrev pub head_of : List (List ℕ) → Option (List ℕ)
-head_of [] = None
-head_of (p ∷ ps) = Some p
-
-abbrev pub tail_of : List (List ℕ) → List (List ℕ)
-tail_of [] = []
-tail_of (p ∷ ps) = ps
-
--- the first word of a line
-unfoldable pub word_of : List ℕ → Option (List ℕ)
-word_of line = head_of (from_word (pieces 32 line))
-
--- what stands behind the first word and one space
-unfoldable pub rest_of : List ℕ → List ℕ
-rest_of line = behind_first (spaced (tail_of (from_word (pieces 32 line))))
 
 unfoldable pub counted_of : List ℕ → Option Counted
 counted_of w =
@@ -166,10 +135,6 @@ worded_by (Some k) r = worded_order k r
 abbrev pub order_by : Option Counted → Option Worded → (rest : List ℕ) → Result Order Refusal
 order_by (Some k) w r = by_numbers k (numbers (words r))
 order_by None w r = worded_by w r
-
--- a comment's first word begins with #, 35
-abbrev pub is_comment : List ℕ → Bool
-is_comment w = slice_index w 0 == 35
 
 abbrev pub some : Result Order Refusal → Result (Option Order) Refusal
 some (Ok o) = Ok (Some o)

@@ -1,6 +1,5 @@
 // The fields of commands, from what stands behind the first word.
 ghost use Rattle.std.specs.Prelude.{◌≡◌, Ok, vec_items};
-ghost use Rattle.std.specs.Str.{bytes_eq};
 ghost use Rattle.script.specs.Stops.{Gives};
 ghost use Rattle.script.specs.Text.{words};
 ghost use Rattle.orders.specs.Orders.{meant, hex_word, whom_of, drawn_by, say_by, bring_of, bytes_of, counted_order};
@@ -11,32 +10,24 @@ use crate::keyword::Counted;
 use script::stop::Stop;
 use script::text;
 use std::alloc::Global;
+use timing::parameters::Numbers;
 use timing::refusal::Refusal;
 
-pub fn same(a: &[u8], b: &[u8]) -> bool
-    ensures { result ≡ bytes_eq a.now b.now }
-{
-    a == b
-}
-
-// A command whose fields are all numbers.
+// A command whose fields are all numbers. Script's has other words, so one function for both would be a layer more.
 pub fn with_numbers(word: Counted, numbers: Vec<u64>) -> Result<Command, Stop>
     ensures { Gives meant result (counted_order word numbers.items) }
 {
     let command = match (word, numbers.as_slice()) {
         (Counted::Play, []) => Command::Play,
-        (Counted::Settings, [ticks, delay, error, last]) => Command::Settings {
-            ticks: *ticks,
-            delay: *delay,
-            error: *error,
-            last: *last,
-        },
-        (Counted::Receivers, [count]) => Command::Receivers(*count),
-        (Counted::Time, [tick]) => Command::Time(*tick),
-        (Counted::Clock, [receiver, tick]) => Command::Clock {
-            receiver: *receiver,
-            tick: *tick,
-        },
+        (Counted::Settings, &[ticks, delay, error, last]) => Command::Settings(Numbers {
+            ticks,
+            delay,
+            error,
+            last,
+        }),
+        (Counted::Receivers, &[count]) => Command::Receivers(count),
+        (Counted::Time, &[tick]) => Command::Time(tick),
+        (Counted::Clock, &[receiver, tick]) => Command::Clock { receiver, tick },
         (Counted::Clocks, _) => Command::Clocks(numbers),
         (Counted::End, []) => Command::End,
         _ => return Err(Stop::Fault(Refusal::Malformed)),
@@ -48,26 +39,22 @@ pub fn with_numbers(word: Counted, numbers: Vec<u64>) -> Result<Command, Stop>
 fn hex_word(heap: Global, fields: &[u8]) -> Result<Vec<u8>, Stop>
     ensures { Gives vec_items result (hex_word (words fields.now)) }
 {
-    let Some((word, after)) = text::next_word(fields) else {
-        return Err(Stop::Fault(Refusal::Malformed));
-    };
-    if let Some(_) = text::next_word(after) {
+    let (word, after) = text::next_word(fields).ok_or(Refusal::Malformed)?;
+    if text::next_word(after).is_some() {
         return Err(Stop::Fault(Refusal::Malformed));
     }
     hex::bytes(heap, word)
 }
 
 // A number of a receiver, or `all`.
+#[tactic(auto, unfolding(crate::specs::Orders::whom_of))]
 fn whom(word: &[u8]) -> Option<Whom>
     ensures { result ≡ whom_of word.now }
 {
-    if same(word, b"all") {
+    if word == b"all".as_slice() {
         return Some(Whom::All);
     }
-    match text::number(word) {
-        Some(receiver) => Some(Whom::One(receiver)),
-        None => None,
-    }
+    text::number(word).map(Whom::One)
 }
 
 pub fn drawn(heap: Global, fields: &[u8]) -> Result<Command, Stop>
@@ -107,33 +94,21 @@ pub fn say_hex(heap: Global, fields: &[u8]) -> Result<Command, Stop>
 pub fn bring(fields: &[u8]) -> Result<Command, Stop>
     ensures { Gives meant result (bring_of (words fields.now)) }
 {
-    let Some((record, after)) = text::next_word(fields) else {
-        return Err(Stop::Fault(Refusal::Malformed));
-    };
-    let Some((to, after)) = text::next_word(after) else {
-        return Err(Stop::Fault(Refusal::Malformed));
-    };
-    if let Some(_) = text::next_word(after) {
+    let (record, after) = text::next_word(fields).ok_or(Refusal::Malformed)?;
+    let (to, after) = text::next_word(after).ok_or(Refusal::Malformed)?;
+    if text::next_word(after).is_some() {
         return Err(Stop::Fault(Refusal::Malformed));
     }
-    let Some(record) = text::number(record) else {
-        return Err(Stop::Fault(Refusal::Malformed));
-    };
-    let Some(to) = whom(to) else {
-        return Err(Stop::Fault(Refusal::Malformed));
-    };
+    let record = text::number(record).ok_or(Refusal::Malformed)?;
+    let to = whom(to).ok_or(Refusal::Malformed)?;
     Ok(Command::Bring { record, to })
 }
 
 pub fn bytes(heap: Global, fields: &[u8]) -> Result<Command, Stop>
     ensures { Gives meant result (bytes_of (words fields.now)) }
 {
-    let Some((to, after)) = text::next_word(fields) else {
-        return Err(Stop::Fault(Refusal::Malformed));
-    };
-    let Some(to) = whom(to) else {
-        return Err(Stop::Fault(Refusal::Malformed));
-    };
+    let (to, after) = text::next_word(fields).ok_or(Refusal::Malformed)?;
+    let to = whom(to).ok_or(Refusal::Malformed)?;
     let bytes = hex_word(heap, after)?;
     Ok(Command::Bytes { to, bytes })
 }

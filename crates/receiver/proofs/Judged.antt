@@ -1,12 +1,13 @@
 -- What a message that is buffered, and a key that is taken, tell of the state.
-use Rattle.std.proofs.Common.{◌≡◌, Bool, true, false, cond, not, ◌&&◌, leb, List, [], ◌∷◌, ◌++◌, sym, refl, ap, ◌∙◌}
-use Rattle.std.proofs.lemmas.Bool.{false≢true, not-false}
+use Rattle.std.proofs.Common.{◌≡◌, Bool, true, false, cond, not, ◌&&◌, leb, ltb, List, [], ◌∷◌, ◌++◌, length, sym, refl, ap, ◌∙◌}
+use Rattle.std.proofs.lemmas.Bool.{false≢true, not-false, cond-true, and_parts}
 use Rattle.timing.specs.Time.{Params, may_be_out, too_early}
+use Rattle.buffer.specs.Buffers.{messages_of}
+use Rattle.buffer.proofs.Lists.{count_is}
+use Rattle.receiver.specs.State.{params_of, state_of}
+use Rattle.receiver.specs.declared.state.Receiver.{Receiver}
 use Rattle.timing.specs.declared.refusal.Refusal.TheVariants as refusal
-use Rattle.model.specs.Receiver.{Message, Outcome, buffered, already, refused, State, in_chain, is_in, has_room, judge, is_buffered, hears, is_taken}
-use Rattle.receiver.specs.State.{meant}
-use Rattle.receiver.specs.declared.outcome.Outcome as code
-use Rattle.receiver.specs.declared.outcome.Outcome.TheVariants as variant
+use Rattle.model.specs.Receiver.{Message, Outcome, buffered, already, refused, State, in_chain, is_in, has_room, judge, is_buffered}
 
 past : (b : Bool) (a x : Outcome) → is_buffered a ≡ false → cond b a x ≡ buffered → (b ≡ false) × (x ≡ buffered)
 past true a x n h = absurd (false≢true (sym n ∙ ap is_buffered h))
@@ -22,12 +23,11 @@ buffered_room p s x h =
     let f = (past (too_early p s.clock i) (refused refusal.TooEarly) _ refl d).1 in
     not-false _ (past (not (has_room s.buffer i)) (refused refusal.NoRoom) buffered refl f).0
 
-pub buffered_state : (p : Params) (x : Message) (s : State) (l : List Message) → judge p s x ≡ buffered → l ≡ s.buffer ++ x ∷ [] → record { clock = s.clock; newest = s.newest; key = s.key; buffer = l } ≡ hears p x s
-buffered_state p x s l h q = rw h (ap (λ (k : List Message). record { clock = s.clock; newest = s.newest; key = s.key; buffer = k }) q)
-
-pub not_taken : (o : code.Outcome) (a : Outcome) → meant o ≡ a → (o ≡ variant.Taken → ⊥) → is_taken a ≡ false
-not_taken variant.Told a e n = ap is_taken (sym e)
-not_taken variant.Buffered a e n = ap is_taken (sym e)
-not_taken variant.Already a e n = ap is_taken (sym e)
-not_taken variant.Taken a e n = absurd (n refl)
-not_taken (variant.Refused r) a e n = ap is_taken (sym e)
+-- a buffer into which one more was pushed, where the message is to be buffered
+pub buffered_after : (r : Receiver) (x : Message) (l : List Message) → judge (params_of r) (state_of r) x ≡ buffered
+    → l ≡ cond (ltb r.buffer.len 64) (messages_of r.buffer ++ x ∷ []) (messages_of r.buffer) → l ≡ messages_of r.buffer ++ x ∷ []
+buffered_after r x l h q =
+    let n = count_is r.buffer in
+    let a : ltb (length (messages_of r.buffer)) 64 ≡ true = (and_parts _ _ (buffered_room (params_of r) (state_of r) x h)).0 in
+    let t : ltb r.buffer.len 64 ≡ true = rw n at a in
+    q ∙ cond-true _ _ _ t

@@ -1,20 +1,24 @@
 -- What the receiver's state and outcomes stand for in the model.
-use Rattle.std.specs.Prelude.{◌≡◌, ℕ, ◌-◌, ◌<◌, ◌≤◌, List, slice_index, slice_index_or}
+use Rattle.std.specs.Prelude.{◌≡◌, ℕ, ◌-◌, ◌<◌, ◌≤◌, List, Ok, Err, Result, slice_index, slice_index_or}
 use Rattle.timing.specs.Time.{Params, parameters_of}
 use Rattle.model.specs.Receiver as model
 use Rattle.buffer.specs.Buffers.{messages_of}
 use Rattle.buffer.specs.declared.message.Buffered.{Buffered}
 use Rattle.buffer.specs.declared.room.Buffer.{Buffer}
-use Rattle.receiver.specs.declared.outcome.Outcome.{Outcome}
-use Rattle.receiver.specs.declared.outcome.Outcome.TheVariants.{Told, Buffered as BufferedOne, Already, Taken, Refused}
+use Rattle.timing.specs.declared.refusal.Refusal.{Refusal}
+use Rattle.receiver.specs.declared.outcome.Accepted.{Accepted}
+use Rattle.receiver.specs.declared.outcome.Accepted.TheVariants as accepted
 use Rattle.receiver.specs.declared.state.Receiver.{Receiver}
 
-abbrev pub meant : Outcome → model.Outcome
-meant Told = model.told
-meant BufferedOne = model.buffered
-meant Already = model.already
-meant Taken = model.taken
-meant (Refused e) = model.refused e
+abbrev pub done : Accepted → model.Outcome
+done accepted.Told = model.told
+done accepted.Buffered = model.buffered
+done accepted.Already = model.already
+done accepted.Taken = model.taken
+
+abbrev pub meant : Result Accepted Refusal → model.Outcome
+meant (Ok a) = done a
+meant (Err e) = model.refused e
 
 abbrev pub params_of : Receiver → Params
 params_of r = parameters_of r.parameters

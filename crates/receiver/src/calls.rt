@@ -1,43 +1,32 @@
 // The public calls: bytes of the receiver's own clock and bytes from the air, each with what they come to.
-ghost use Rattle.std.specs.Prelude.{◌≡◌, ℕ, List, []};
+ghost use Rattle.std.specs.Prelude.{◌≡◌, ℕ, List, [], Some};
 ghost use Rattle.sha256.specs.Hmac.{hmac};
 ghost use Rattle.timing.specs.Time.{Params, parameters_of};
 ghost use Rattle.model.specs.Receiver.{first_state, ours};
 ghost use Rattle.model.specs.Run.{key_bytes, start};
 ghost use Rattle.keychain.specs.Chain.{drawing};
-ghost use Rattle.model.specs.Receiver.{outcome_number, judge_tick, ticks, after, outcome, delivered, steps};
+ghost use Rattle.model.specs.Receiver.{ticked};
 ghost use Rattle.wire.specs.Fits.{PacketFits};
 ghost use Rattle.wire.specs.Formats.{message_event, key_event};
 ghost use Rattle.wire.specs.Values.{packet_of, key_of};
 ghost use Rattle.buffer.specs.Buffers.{saids_of};
-ghost use Rattle.receiver.specs.Calls.{own_clock, from_air, state_after, outcome_of, delivered_of, steps_of};
-ghost use Rattle.receiver.specs.State.{meant, params_of, state_of, Work};
+ghost use Rattle.receiver.specs.Calls.{event_of, own_clock, from_air};
+ghost use Rattle.receiver.specs.Heard.{Ticked, Heard};
+ghost use Rattle.receiver.specs.State.{state_of};
 ghost use Rattle.receiver.specs.Worlds.{Worlds, Stands, CallStands, PromiseOnCalls, SameCalls};
 
-use crate::outcome::Outcome;
+use crate::outcome::{Accepted, Outcome};
 use crate::rules;
 use crate::state::Receiver;
-use buffer::message::Buffered;
 use buffer::room::Buffer;
 use keychain::key::Key;
+use timing::clocks::told;
 use timing::refusal::Refusal;
 use wire::air::Air;
 use wire::key::DisclosedKey;
 use wire::message::Message;
 use wire::settings::Settings;
 use wire::{air, clock};
-
-impl Outcome {
-    // 0, or the number of the refusal.
-    pub fn number(self) -> u8
-        ensures { result ≡ outcome_number (meant self) }
-    {
-        match self {
-            Outcome::Told | Outcome::Buffered | Outcome::Already | Outcome::Taken => 0,
-            Outcome::Refused(e) => e.number(),
-        }
-    }
-}
 
 // What an input came to, and how many steps of the key chain and how many tags were worked out for it.
 #[derive(Clone, Copy, Drop)]
@@ -49,25 +38,18 @@ pub struct Answer {
 
 // A tick of the receiver's own clock.
 fn tell(r: &mut Receiver, tick: u64) -> Outcome
-    ensures parameters { r.new.parameters ≡ r.old.parameters }
-    ensures state { state_of r.new ≡ ticks tick (state_of r.old) }
-    ensures outcome { meant result ≡ judge_tick tick (state_of r.old) }
+    ensures { Ticked (Some (ticked tick)) r.old r.new result }
 {
-    if tick < r.clock {
-        return Outcome::Refused(Refusal::ClockBack);
-    }
-    r.clock = tick;
-    Outcome::Told
+    r.clock = told(r.clock, tick)?;
+    Ok(Accepted::Told)
 }
 
 // Bytes of the receiver's own clock.
 pub fn hear_clock(r: &mut Receiver, bytes: &[u8]) -> Outcome
-    ensures parameters { r.new.parameters ≡ r.old.parameters }
-    ensures state { state_of r.new ≡ state_after (params_of r.old) (own_clock bytes.now) (state_of r.old) }
-    ensures outcome { meant result ≡ outcome_of (params_of r.old) (own_clock bytes.now) (state_of r.old) }
+    ensures { Ticked (event_of (own_clock bytes.now)) r.old r.new result }
 {
     let Ok(tick) = clock::read(bytes) else {
-        return Outcome::Refused(Refusal::Malformed);
+        return Err(Refusal::Malformed);
     };
     tell(r, tick)
 }
@@ -75,54 +57,31 @@ pub fn hear_clock(r: &mut Receiver, bytes: &[u8]) -> Outcome
 // A message and the key disclosed behind it: the message is judged first.
 fn hear_message(r: &mut Receiver, m: Message<'_>, out: &mut Buffer) -> Answer
     requires { PacketFits (packet_of m) }
-    ensures parameters { r.new.parameters ≡ r.old.parameters }
-    ensures state { state_of r.new ≡ after (params_of r.old) hmac (message_event (packet_of m.entry)) (state_of r.old) }
-    ensures outcome { meant result.outcome ≡ outcome (params_of r.old) hmac (message_event (packet_of m.entry)) (state_of r.old) }
-    ensures delivered { saids_of out.new ≡ delivered (params_of r.old) hmac (message_event (packet_of m.entry)) (state_of r.old) }
-    ensures work { Work result.steps result.tags (steps (params_of r.old) (message_event (packet_of m.entry)) (state_of r.old)) }
+    ensures { Heard (Some (message_event (packet_of m.entry))) r.old r.new result (saids_of out.new) }
 {
     let said = m.said;
     let tag = m.tag;
     let disclosed = m.disclosed;
-    let heard = match Buffered::new(said.interval, said.index, said.text, tag) {
-        Ok(message) => rules::hear(r, &message),
-        Err(e) => Outcome::Refused(e),
-    };
+    let outcome = rules::hear(r, said, tag);
     let key = Key {
         bytes: *disclosed.key,
     };
     let learned = rules::learn(r, disclosed.interval, key, out);
-    Answer {
-        outcome: heard,
-        steps: learned.steps,
-        tags: learned.tags,
-    }
+    Answer { outcome, ..learned }
 }
 
 // A key by itself.
 fn hear_key(r: &mut Receiver, k: DisclosedKey<'_>, out: &mut Buffer) -> Answer
-    ensures parameters { r.new.parameters ≡ r.old.parameters }
-    ensures state { state_of r.new ≡ after (params_of r.old) hmac (key_event (key_of k.entry)) (state_of r.old) }
-    ensures outcome { meant result.outcome ≡ outcome (params_of r.old) hmac (key_event (key_of k.entry)) (state_of r.old) }
-    ensures delivered { saids_of out.new ≡ delivered (params_of r.old) hmac (key_event (key_of k.entry)) (state_of r.old) }
-    ensures work { Work result.steps result.tags (steps (params_of r.old) (key_event (key_of k.entry)) (state_of r.old)) }
+    ensures { Heard (Some (key_event (key_of k.entry))) r.old r.new result (saids_of out.new) }
 {
     let key = Key { bytes: *k.key };
-    let learned = rules::learn(r, k.interval, key, out);
-    Answer {
-        outcome: learned.outcome,
-        steps: learned.steps,
-        tags: learned.tags,
-    }
+    rules::learn(r, k.interval, key, out)
 }
 
 // Bytes from the air.
+#[tactic(auto, using(buffer::proofs::Lists::saids_none))]
 pub fn hear_air(r: &mut Receiver, bytes: &[u8], out: &mut Buffer) -> Answer
-    ensures parameters { r.new.parameters ≡ r.old.parameters }
-    ensures state { state_of r.new ≡ state_after (params_of r.old) (from_air bytes.now) (state_of r.old) }
-    ensures outcome { meant result.outcome ≡ outcome_of (params_of r.old) (from_air bytes.now) (state_of r.old) }
-    ensures delivered { saids_of out.new ≡ delivered_of (params_of r.old) (from_air bytes.now) (state_of r.old) }
-    ensures work { Work result.steps result.tags (steps_of (params_of r.old) (from_air bytes.now) (state_of r.old)) }
+    ensures { Heard (event_of (from_air bytes.now)) r.old r.new result (saids_of out.new) }
 {
     match air::read(bytes) {
         Ok(Air::Message(m)) => hear_message(r, m, out),
@@ -130,7 +89,7 @@ pub fn hear_air(r: &mut Receiver, bytes: &[u8], out: &mut Buffer) -> Answer
         Err(e) => {
             out.clear();
             Answer {
-                outcome: Outcome::Refused(e),
+                outcome: Err(e),
                 steps: 0,
                 tags: 0,
             }
@@ -157,9 +116,7 @@ impl Receiver {
 
     // Bytes of its own clock.
     pub fn clock(self, bytes: &[u8]) -> (Receiver, Outcome)
-        ensures parameters { result.0.parameters ≡ self.parameters }
-        ensures state { state_of result.0 ≡ state_after (params_of self) (own_clock bytes.now) (state_of self) }
-        ensures outcome { meant result.1 ≡ outcome_of (params_of self) (own_clock bytes.now) (state_of self) }
+        ensures ticked { Ticked (event_of (own_clock bytes.now)) self result.0 result.1 }
         ensures stands { (p : Params) (n : ℕ) (w : Worlds p) → Stands p n self w → CallStands p n (own_clock bytes.now) result.0 [] w }
     {
         let mut r = self;
@@ -169,11 +126,7 @@ impl Receiver {
 
     // Bytes from the air, with what is delivered.
     pub fn air(self, bytes: &[u8]) -> (Receiver, Answer, Buffer)
-        ensures parameters { result.0.parameters ≡ self.parameters }
-        ensures state { state_of result.0 ≡ state_after (params_of self) (from_air bytes.now) (state_of self) }
-        ensures outcome { meant result.1.outcome ≡ outcome_of (params_of self) (from_air bytes.now) (state_of self) }
-        ensures delivered { saids_of result.2 ≡ delivered_of (params_of self) (from_air bytes.now) (state_of self) }
-        ensures work { Work result.1.steps result.1.tags (steps_of (params_of self) (from_air bytes.now) (state_of self)) }
+        ensures heard { Heard (event_of (from_air bytes.now)) self result.0 result.1 (saids_of result.2) }
         ensures stands { (p : Params) (n : ℕ) (w : Worlds p) → Stands p n self w → CallStands p n (from_air bytes.now) result.0 (saids_of result.2) w }
     {
         let mut r = self;

@@ -1,8 +1,10 @@
 // What an input comes to.
+use std::fmt;
 use timing::refusal::Refusal;
 
-#[derive(Clone, Copy, Drop)]
-pub enum Outcome {
+// What is done with an input that is not refused.
+#[derive(Clone, Copy, PartialEq, Eq, Debug, Drop)]
+pub enum Accepted {
     // a tick is the clock
     Told,
     // a message is buffered
@@ -11,5 +13,17 @@ pub enum Outcome {
     Already,
     // a key is taken
     Taken,
-    Refused(Refusal),
+}
+
+pub type Outcome = Result<Accepted, Refusal>;
+
+impl fmt::Display for Accepted {
+    fn fmt<W: fmt::Write>(&self, f: &mut fmt::Formatter<W>) -> fmt::Result {
+        f.write_str(match self {
+            Accepted::Told => "told",
+            Accepted::Buffered => "buffered",
+            Accepted::Already => "buffered already",
+            Accepted::Taken => "key taken",
+        })
+    }
 }

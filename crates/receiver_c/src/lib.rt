@@ -1,12 +1,13 @@
 // A receiver for C, over memory that the caller owns. A slice is passed as a pointer and a length.
 #![tactic(auto)]
 
-ghost use Rattle.std.specs.Prelude.{◌≡◌, ℕ, cond, List};
+ghost use Rattle.std.specs.Prelude.{◌≡◌};
 ghost use Rattle.model.specs.Receiver.{outcome_number};
 ghost use Rattle.buffer.specs.Buffers.{saids_of};
 ghost use Rattle.wire.specs.Setup.{settings_answer};
 ghost use Rattle.buffer.specs.declared.message.Buffered.{Buffered};
 ghost use Rattle.receiver.specs.Calls.{own_clock, from_air, state_after, outcome_of, delivered_of};
+ghost use Rattle.receiver.specs.Heard.{Became};
 ghost use Rattle.receiver.specs.State.{params_of, state_of};
 ghost use Rattle.receiver_c.specs.Made.{made_number, Made, record_length, record_over};
 
@@ -14,7 +15,7 @@ use buffer::room::Buffer;
 use receiver::calls::{hear_air, hear_clock};
 use receiver::state::Receiver;
 use std::mem::size_of;
-use wire::said::Said;
+use timing::refusal::number_of;
 use wire::{delivery, settings};
 
 // size_t tesla_receiver_size(void);
@@ -45,7 +46,7 @@ pub extern "C" fn tesla_receiver_new(r: &mut Receiver, bytes: &[u8]) -> u8
             *r = Receiver::new(s);
             0
         }
-        Err(e) => e.number(),
+        Err(e) => u8::from(e),
     }
 }
 
@@ -53,23 +54,21 @@ pub extern "C" fn tesla_receiver_new(r: &mut Receiver, bytes: &[u8]) -> u8
 // uint8_t tesla_receiver_clock(void *receiver, const uint8_t *bytes, size_t len);
 #[unsafe(no_mangle)]
 pub extern "C" fn tesla_receiver_clock(r: &mut Receiver, bytes: &[u8]) -> u8
-    ensures parameters { r.new.parameters ≡ r.old.parameters }
-    ensures state { state_of r.new ≡ state_after (params_of r.old) (own_clock bytes.now) (state_of r.old) }
+    ensures state { Became r.old r.new (state_after (params_of r.old) (own_clock bytes.now) (state_of r.old)) }
     ensures number { result ≡ outcome_number (outcome_of (params_of r.old) (own_clock bytes.now) (state_of r.old)) }
 {
-    hear_clock(r, bytes).number()
+    number_of(&hear_clock(r, bytes))
 }
 
 // Bytes from the air, and what is delivered.
 // uint8_t tesla_receiver_air(void *receiver, const uint8_t *bytes, size_t len, void *deliveries);
 #[unsafe(no_mangle)]
 pub extern "C" fn tesla_receiver_air(r: &mut Receiver, bytes: &[u8], out: &mut Buffer) -> u8
-    ensures parameters { r.new.parameters ≡ r.old.parameters }
-    ensures state { state_of r.new ≡ state_after (params_of r.old) (from_air bytes.now) (state_of r.old) }
+    ensures state { Became r.old r.new (state_after (params_of r.old) (from_air bytes.now) (state_of r.old)) }
     ensures number { result ≡ outcome_number (outcome_of (params_of r.old) (from_air bytes.now) (state_of r.old)) }
     ensures delivered { saids_of out.new ≡ delivered_of (params_of r.old) (from_air bytes.now) (state_of r.old) }
 {
-    hear_air(r, bytes, out).outcome.number()
+    number_of(&hear_air(r, bytes, out).outcome)
 }
 
 // Delivery number i, from 0, as a record of kind 16 at the front of the memory: its length, or 0 if there is none,
@@ -80,17 +79,8 @@ pub extern "C" fn tesla_delivery(out: &Buffer, i: usize, out_record: &mut [u8; 2
     ensures length { (d : Buffered) → result ≡ record_length out.now i d }
     ensures memory { (d : Buffered) → out_record.new ≡ record_over out.now i d out_record.old }
 {
-    if i >= out.len {
+    let Some(m) = out.messages().get(i) else {
         return 0;
-    }
-    let m = out.messages[i];
-    let said = Said {
-        interval: m.numbers.interval,
-        index: m.numbers.index,
-        text: &m.text[0..m.numbers.len as usize],
     };
-    match delivery::write(said, out_record) {
-        Ok(n) => n,
-        Err(_) => 0,
-    }
+    delivery::write(m.said(), out_record).unwrap_or(0)
 }

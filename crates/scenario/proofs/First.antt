@@ -4,7 +4,7 @@ use Rattle.timing.specs.declared.refusal.Refusal.{Refusal}
 use Rattle.timing.specs.declared.refusal.Refusal.TheVariants.{Malformed}
 use Rattle.script.specs.Commands.{line_of}
 use Rattle.script.specs.Text.{words, lines_of}
-use Rattle.scenario.specs.declared.error.Fault.{Fault}
+use Rattle.script.specs.declared.error.Fault.{Fault}
 use Rattle.scenario.specs.Laws.{ran, AtLine, NoEnd, FaultIsFirst}
 use Rattle.scenario.specs.Plays.{fault_at, played}
 use Rattle.scenario.specs.States.{State, start, stepped}

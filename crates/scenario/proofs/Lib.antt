@@ -1,5 +1,4 @@
 pub mod Heard
-pub mod Limits
 pub mod Lines
 pub mod First
 pub mod Sound

@@ -10,12 +10,14 @@ use Rattle.script.specs.Commands.{Order, line_of}
 use Rattle.script.specs.Commands as order
 use Rattle.script.specs.Text.{words, lines_of}
 use Rattle.scenario.specs.declared.arrival.Arrival.{Arrival}
-use Rattle.scenario.specs.declared.error.Error.{Error}
+use Rattle.script.specs.declared.error.Error.{Error}
 use Rattle.scenario.specs.Laws.{AllRight, JudgedBySettings}
 use Rattle.scenario.specs.Plays.{fault_at, played, playing, Plays}
 use Rattle.scenario.specs.Scenes.{at_zero, clock_answer, clock_after, arrivals}
 use Rattle.scenario.specs.States.{State, state, start, with_clocks, after_told, gathered, messaged, finished, followed, stepped}
-use Rattle.scenario.proofs.Lines.{onward, played_line, lines_end}
+use Rattle.scenario.specs.declared.scene.Scene.TheVariants.{Bare}
+use Rattle.script.specs.Reading.{Runs}
+use Rattle.scenario.proofs.Lines.{onward, played_line, lines_end, steps, ends, read_plays}
 
 -- before the settings there is nothing, and after them all is right by them
 abbrev Sound : Option Params → List ℕ → List Arrival → Bool → Type 0
@@ -122,9 +124,12 @@ played_is n s [] xs a h = ended_is s.settings s.clocks s.heard s.ended n xs a (s
 played_is n s (l ∷ ls) xs a h =
     on n ls xs (λ t b e. played_is (n + 1) t ls xs b e) (stepped (n + 1) s (line_of (words l))) (λ t e. stepped_is (n + 1) s (line_of (words l)) t a e) (sym (played_line n s l ls) ∙ h)
 
-pub judged_by_settings : (b : List ℕ) (xs : List Arrival) → playing b ≡ Ok xs → JudgedBySettings xs
+judged_by_settings : (b : List ℕ) (xs : List Arrival) → playing b ≡ Ok xs → JudgedBySettings xs
 judged_by_settings b xs h = played_is 0 start (lines_of b) xs (refl, refl, refl) h
 
-pub judged_where_played : (b : List ℕ) (r : Result (Vec Arrival Global) Error) → Plays r (playing b) → IfOk r (λ v. JudgedBySettings (vec_items v))
+judged_where_played : (b : List ℕ) (r : Result (Vec Arrival Global) Error) → Plays r (playing b) → IfOk r (λ v. JudgedBySettings (vec_items v))
 judged_where_played b (Ok v) h = judged_by_settings b (vec_items v) h
 judged_where_played b (Err e) h = tt
+
+pub read_judged : (b : List ℕ) (r : Result (Vec Arrival Global) Error) → Runs steps ends 0 Bare (lines_of b) r → IfOk r (λ v. JudgedBySettings (vec_items v))
+read_judged b r h = judged_where_played b r (read_plays b r h)

@@ -7,7 +7,7 @@ use Rattle.timing.specs.declared.refusal.Refusal.TheVariants.{Malformed}
 use Rattle.script.specs.Commands.{line_of}
 use Rattle.script.specs.Text.{words, lines_of}
 use Rattle.scenario.specs.declared.arrival.Arrival.{Arrival}
-use Rattle.scenario.specs.declared.error.Fault.{Fault}
+use Rattle.script.specs.declared.error.Fault.{Fault}
 use Rattle.scenario.specs.Plays.{playing}
 use Rattle.scenario.specs.States.{State, start, stepped}
 

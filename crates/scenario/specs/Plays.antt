@@ -4,9 +4,9 @@ use Rattle.std.specs.declared.alloc.Global.{Global}
 use Rattle.timing.specs.declared.refusal.Refusal.{Refusal}
 use Rattle.timing.specs.declared.refusal.Refusal.TheVariants.{Malformed}
 use Rattle.scenario.specs.declared.arrival.Arrival.{Arrival}
-use Rattle.scenario.specs.declared.error.Error.{Error}
-use Rattle.scenario.specs.declared.error.Error.TheVariants.{Faulty, NoMemory}
-use Rattle.scenario.specs.declared.error.Fault.{Fault}
+use Rattle.script.specs.declared.error.Error.{Error}
+use Rattle.script.specs.declared.error.Error.TheVariants.{Faulty, NoMemory}
+use Rattle.script.specs.declared.error.Fault.{Fault}
 use Rattle.script.specs.Commands.{line_of}
 use Rattle.scenario.specs.States.{State, start, stepped}
 use Rattle.script.specs.Text.{words, lines_of}
@@ -32,9 +32,3 @@ abbrev pub Plays : Result (Vec Arrival Global) Error → Result (List Arrival) F
 Plays (Ok v) s = s ≡ Ok (vec_items v)
 Plays (Err (Faulty f)) s = s ≡ Err f
 Plays (Err NoMemory) s = Unit {0}
-
--- one line, which leaves this state
-abbrev pub Follows : State → (line : ℕ) → Result Unit Error → Result State Refusal → Type 0
-Follows t n (Ok u) s = s ≡ Ok t
-Follows t n (Err (Faulty f)) s = (s ≡ Err f.refusal) × (f.line ≡ n)
-Follows t n (Err NoMemory) s = Unit {0}

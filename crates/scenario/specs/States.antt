@@ -1,12 +1,13 @@
 -- What stands while a script is followed, and what an order makes of it.
 use Rattle.std.specs.Prelude.{ℕ, Bool, true, false, cond, ◌&&◌, List, [], ◌++◌, length, is_some, Some, None, Ok, Err, vec_items, Option, Result, ◌==◌, nat_le}
-use Rattle.std.specs.Option.{option_map}
 use Rattle.timing.specs.Clocks.{clocks_answer, clocks_after}
 use Rattle.timing.specs.Time.{Params, params, parameters_of, in_range}
 use Rattle.timing.specs.declared.refusal.Refusal.{Refusal}
 use Rattle.timing.specs.declared.refusal.Refusal.TheVariants.{Malformed, OutOfRange, BadSettings}
 use Rattle.scenario.specs.declared.arrival.Arrival.{Arrival}
+use Rattle.scenario.specs.declared.receivers.Receivers.{Receivers}
 use Rattle.scenario.specs.declared.scene.Scene.{Scene}
+use Rattle.scenario.specs.declared.scene.Scene.TheVariants as scene
 use Rattle.script.specs.Commands.{Order}
 use Rattle.script.specs.Commands as order
 use Rattle.scenario.specs.Scenes.{at_zero, clock_answer, clock_after, arrivals}
@@ -22,11 +23,17 @@ pub record State : Type 0 where
 abbrev pub state : Option Params → List ℕ → List Arrival → Bool → State
 state p cs hs b = record { settings = p; clocks = cs; heard = hs; ended = b }
 
-abbrev pub state_of : Scene → State
-state_of w = state (option_map parameters_of w.parameters) (vec_items w.clocks) (vec_items w.heard) w.ended
-
 abbrev pub start : State
 start = state None [] [] false
+
+abbrev pub with_receivers : Receivers → (ended : Bool) → State
+with_receivers r b = state (Some (parameters_of r.parameters)) (vec_items r.clocks) (vec_items r.heard) b
+
+abbrev pub state_of : Scene → State
+state_of scene.Bare = start
+state_of (scene.Settled p) = state (Some (parameters_of p)) [] [] false
+state_of (scene.Open r) = with_receivers r false
+state_of (scene.Ended r) = with_receivers r true
 
 -- only once
 abbrev pub settled : State → (ticks delay error last : ℕ) → Result State Refusal
@@ -82,3 +89,7 @@ abbrev pub stepped : (line : ℕ) → State → Result (Option Order) Refusal �
 stepped l s (Ok None) = Ok s
 stepped l s (Ok (Some o)) = obeyed l s o
 stepped l s (Err e) = Err e
+
+-- what was heard, if there was an `end`
+abbrev pub ended : State → Result (List Arrival) Refusal
+ended s = cond s.ended (Ok s.heard) (Err Malformed)

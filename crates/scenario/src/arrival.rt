@@ -1,7 +1,7 @@
 // A message that reaches a receiver.
-use timing::safety::Judgement;
+use timing::refusal::Refusal;
 
-#[derive(Clone, Copy, Drop)]
+#[derive(Clone, Copy, PartialEq, Eq, Debug, Drop)]
 pub struct Arrival {
     // the line of the script that sends the message
     pub line: u64,
@@ -11,5 +11,5 @@ pub struct Arrival {
     // what the receiver's clock shows
     pub clock: u64,
     // what the message comes to by that clock
-    pub judgement: Judgement,
+    pub judgement: Result<(), Refusal>,
 }

@@ -2,9 +2,7 @@
 #![tactic(auto)]
 
 pub mod arrival;
-mod clocks;
-pub mod error;
-mod hearing;
 pub mod laws;
 pub mod play;
+mod receivers;
 mod scene;

@@ -1,143 +1,99 @@
 // What stands while a script is followed.
-ghost use Rattle.std.specs.Prelude.{◌≡◌};
-ghost use Rattle.scenario.specs.States.{state_of, start, settled, gathered, told_all, told_one, messaged, finished, obeyed, stepped};
-ghost use Rattle.script.specs.Commands.{meant, line_of};
-ghost use Rattle.script.specs.Text.{words};
+ghost use Rattle.std.specs.Prelude.{false};
+ghost use Rattle.script.specs.Commands.{meant};
 ghost use Rattle.script.specs.Stops.{Gives};
 
 use crate::arrival::Arrival;
-use crate::{clocks, hearing};
+use crate::receivers;
+use crate::receivers::Receivers;
 use script::command;
 use script::command::Command;
+use script::reader::Follow;
 use script::stop::Stop;
 use std::alloc::Global;
 use timing::parameters::Parameters;
 use timing::refusal::Refusal;
 
 #[derive(Drop)]
-pub struct Scene {
-    pub parameters: Option<Parameters>,
-    pub clocks: Vec<u64>,
-    pub heard: Vec<Arrival>,
-    pub ended: bool,
+pub enum Scene {
+    // no settings yet
+    Bare,
+    // no receivers yet
+    Settled(Parameters),
+    Open(Receivers),
+    // nothing comes after `end`
+    Ended(Receivers),
 }
 
 impl Scene {
-    pub fn new(heap: Global) -> Scene
-        ensures { state_of result ≡ start }
-    {
-        Scene {
-            parameters: None,
-            clocks: Vec::new(heap),
-            heard: Vec::new(heap),
-            ended: false,
-        }
-    }
+    ghost use Rattle.scenario.specs.States.{state_of, with_receivers, obeyed, messaged};
 
-    pub fn settle(&mut self, ticks: u64, delay: u64, error: u64, last: u64) -> Result<(), Stop>
-        ensures { Gives (λ _. state_of self.new) result (settled (state_of self.old) ticks delay error last) }
+    // A message of this interval reaches every receiver.
+    fn message(mut receivers: Receivers, line: u64, interval: u64) -> Result<Scene, Stop>
+        ensures { Gives state_of result (messaged line (with_receivers receivers false) interval) }
     {
-        if self.parameters.is_some() {
-            return Err(Stop::Fault(Refusal::Malformed));
-        }
-        let parameters = hearing::parameters(ticks, delay, error, last)?;
-        self.parameters = Some(parameters);
-        Ok(())
-    }
-
-    pub fn gather(&mut self, heap: Global, count: u64) -> Result<(), Stop>
-        ensures { Gives (λ _. state_of self.new) result (gathered (state_of self.old) count) }
-    {
-        if self.parameters.is_none() {
-            return Err(Stop::Fault(Refusal::Malformed));
-        }
-        if !self.clocks.is_empty() {
-            return Err(Stop::Fault(Refusal::Malformed));
-        }
-        let clocks = clocks::at_zero(heap, count)?;
-        self.clocks = clocks;
-        Ok(())
-    }
-
-    pub fn tell(&mut self, ticks: &[u64]) -> Result<(), Stop>
-        ensures { Gives (λ _. state_of self.new) result (told_all (state_of self.old) ticks.now) }
-    {
-        if self.clocks.is_empty() {
-            return Err(Stop::Fault(Refusal::Malformed));
-        }
-        clocks::tell(&mut self.clocks, ticks)?;
-        Ok(())
-    }
-
-    pub fn tell_one(&mut self, receiver: u64, tick: u64) -> Result<(), Stop>
-        ensures { Gives (λ _. state_of self.new) result (told_one (state_of self.old) receiver tick) }
-    {
-        if self.clocks.is_empty() {
-            return Err(Stop::Fault(Refusal::Malformed));
-        }
-        clocks::tell_one(&mut self.clocks, receiver, tick)?;
-        Ok(())
-    }
-
-    pub fn message(&mut self, line: u64, interval: u64) -> Result<(), Stop>
-        ensures { Gives (λ _. state_of self.new) result (messaged line (state_of self.old) interval) }
-    {
-        let Some(parameters) = self.parameters else {
-            return Err(Stop::Fault(Refusal::Malformed));
-        };
-        if self.clocks.is_empty() {
-            return Err(Stop::Fault(Refusal::Malformed));
-        }
-        if interval < 1 || interval > u64::from(parameters.last) {
+        // `has_interval` takes 16 bits, and an interval of a script has 64
+        if !(1..=u64::from(receivers.parameters.last)).contains(&interval) {
             return Err(Stop::Fault(Refusal::OutOfRange));
         }
-        hearing::hear(
-            parameters,
-            line,
-            interval as u32,
-            self.clocks.as_slice(),
-            &mut self.heard,
-        )
+        receivers.hear(line, interval as u32)?;
+        Ok(Scene::Open(receivers))
     }
 
-    pub fn finish(&mut self) -> Result<(), Stop>
-        ensures { Gives (λ _. state_of self.new) result (finished (state_of self.old)) }
+    pub fn obey(self, heap: Global, line: u64, command: Command) -> Result<Scene, Stop>
+        ensures { Gives state_of result (obeyed line (state_of self) (meant command)) }
     {
-        if self.clocks.is_empty() {
-            return Err(Stop::Fault(Refusal::Malformed));
-        }
-        self.ended = true;
-        Ok(())
-    }
-
-    pub fn obey(&mut self, heap: Global, line: u64, command: Command) -> Result<(), Stop>
-        ensures { Gives (λ _. state_of self.new) result (obeyed line (state_of self.old) (meant command)) }
-    {
-        if self.ended {
-            return Err(Stop::Fault(Refusal::Malformed));
-        }
-        match command {
-            Command::Settings {
-                ticks,
-                delay,
-                error,
-                last,
-            } => self.settle(ticks, delay, error, last),
-            Command::Receivers(count) => self.gather(heap, count),
-            Command::Clocks(ticks) => self.tell(ticks.as_slice()),
-            Command::Clock { receiver, tick } => self.tell_one(receiver, tick),
-            Command::Message(interval) => self.message(line, interval),
-            Command::End => self.finish(),
+        match (self, command) {
+            (Scene::Bare, Command::Settings(numbers)) => {
+                Ok(Scene::Settled(Parameters::try_from(numbers)?))
+            }
+            (Scene::Settled(parameters), Command::Receivers(count)) => Ok(Scene::Open(Receivers {
+                parameters,
+                clocks: receivers::at_zero(heap, count)?,
+                heard: Vec::new(heap),
+            })),
+            (Scene::Open(mut receivers), Command::Clocks(ticks)) => {
+                receivers.tell(ticks.as_slice())?;
+                Ok(Scene::Open(receivers))
+            }
+            (Scene::Open(mut receivers), Command::Clock { receiver, tick }) => {
+                receivers.tell_one(receiver, tick)?;
+                Ok(Scene::Open(receivers))
+            }
+            (Scene::Open(receivers), Command::Message(interval)) => {
+                Scene::message(receivers, line, interval)
+            }
+            (Scene::Open(receivers), Command::End) => Ok(Scene::Ended(receivers)),
+            _ => Err(Stop::Fault(Refusal::Malformed)),
         }
     }
+}
 
-    // One line of a script.
-    pub fn follow(&mut self, heap: Global, line: u64, text: &[u8]) -> Result<(), Stop>
-        ensures { Gives (λ _. state_of self.new) result (stepped line (state_of self.old) (line_of (words text.now))) }
-    {
-        let Some(command) = command::parse(heap, text)? else {
-            return Ok(());
-        };
-        self.obey(heap, line, command)
+impl Follow for Scene {
+    ghost use Rattle.std.specs.Prelude.{vec_items};
+    ghost use Rattle.script.specs.Commands.{line_of};
+    ghost use Rattle.script.specs.Stops.{Gives};
+    ghost use Rattle.script.specs.Text.{words};
+    ghost use Rattle.scenario.specs.States.{state_of, stepped, ended};
+
+    type Read = Vec<Arrival>;
+
+    ghost steps = { λ s n t r. Gives state_of r (stepped n (state_of s) (line_of (words t))) };
+
+    ghost ends = { λ s r. Gives vec_items r (ended (state_of s)) };
+
+    fn follow(self, heap: Global, line: u64, text: &[u8]) -> Result<Scene, Stop> {
+        match command::parse(heap, text)? {
+            Some(command) => self.obey(heap, line, command),
+            None => Ok(self),
+        }
+    }
+
+    // What was heard, if the script has its end.
+    fn finish(self) -> Result<Vec<Arrival>, Stop> {
+        match self {
+            Scene::Ended(receivers) => Ok(receivers.heard),
+            _ => Err(Stop::Fault(Refusal::Malformed)),
+        }
     }
 }

@@ -1,38 +1,17 @@
--- The pieces of bytes, one byte at a time.
-use Rattle.std.proofs.Common.{◌≡◌, ℕ, ◌+◌, ◌<◌, ◌≤◌, Bool, true, false, cond, eqb, List, [], ◌∷◌, ◌++◌, length, get_or, take, drop, sym, refl, ap, ◌∙◌, append_assoc, append-nil}
-use Rattle.std.proofs.lemmas.List.{take_more, drop_more, drop_all, take_all}
-use Rattle.std.proofs.lemmas.Bool.{eq-eqb, ne_eqb}
-use Rattle.script.specs.Text.{before, pieces}
+-- The pieces of bytes, by the place of the first separator.
+use Rattle.std.proofs.Common.{◌≡◌, ℕ, ◌+◌, ◌<◌, true, false, eqb, List, [], ◌∷◌, ◌++◌, length, get_or, take, drop, sym, ap, ◌∙◌, arith, length-take, take-append-drop}
+use Rattle.std.proofs.lemmas.List.{drop_more, get_or-take}
+use Rattle.std.proofs.lemmas.List.Splits.{slice_split_none, slice_split_at}
+use Rattle.std.specs.List.{All, AllWithin, HoldsAt, slice_split}
+use Rattle.script.specs.Text.{pieces}
 
-before_before : (a b : List ℕ) (ps : List (List ℕ)) → before a (before b ps) ≡ before (a ++ b) ps
-before_before a b [] = refl
-before_before a b (p ∷ ps) = ap (λ x. x ∷ ps) (sym (append_assoc a b p))
-
--- the first i bytes have no separator
-abbrev pub Uncut : (s : ℕ) → List ℕ → ℕ → Type 0
-Uncut s xs i = pieces s xs ≡ before (take i xs) (pieces s (drop i xs))
-
-before_none : (b : ℕ) (ps qs : List (List ℕ)) (t : Bool) → cond t ([] ∷ ps) (before (b ∷ []) qs) ≡ before [] (cond t ([] ∷ ps) (before (b ∷ []) qs))
-before_none b ps qs true = refl
-before_none b ps [] false = refl
-before_none b ps (q ∷ qs) false = refl
-
-pub uncut_none : (s : ℕ) (xs : List ℕ) → Uncut s xs 0
+pub cut_here : (s : ℕ) (xs : List ℕ) (i : ℕ) → i < length xs → HoldsAt (λ x. eqb x s ≡ true) xs i → AllWithin (λ x. eqb x s ≡ false) xs 0 i → pieces s xs ≡ take i xs ∷ pieces s (drop (i + 1) xs)
 unfolding pieces
-uncut_none s [] = refl
-uncut_none s (x ∷ xs) = before_none x (pieces s xs) (pieces s xs) (eqb x s)
+cut_here s xs i h y n =
+    let apart : All (λ x. eqb x s ≡ false) (take i xs) = λ k d w. rw (get_or-take i xs k d (omega (arith, length-take i xs))) (n k d (omega arith) (omega (arith, length-take i xs))) in
+    let parts : xs ≡ take i xs ++ get_or xs i 0 ∷ drop (i + 1) xs = sym (take-append-drop i xs) ∙ ap (λ r. take i xs ++ r) (drop_more xs i 0 h) in
+    ap (slice_split (λ x. eqb x s)) parts ∙ slice_split_at (λ x. eqb x s) (take i xs) (get_or xs i 0) (drop (i + 1) xs) apart (y 0)
 
-pub uncut_more : (s : ℕ) (xs : List ℕ) (i : ℕ) → i < length xs → (get_or xs i 0 ≡ s → ⊥) → Uncut s xs i → Uncut s xs (i + 1)
+pub cut_nowhere : (s : ℕ) (xs : List ℕ) → AllWithin (λ x. eqb x s ≡ false) xs 0 (length xs) → pieces s xs ≡ xs ∷ []
 unfolding pieces
-uncut_more s xs i h n u =
-    u ∙ ap (λ x. before (take i xs) (pieces s x)) (drop_more xs i 0 h) ∙ rw (ne_eqb (get_or xs i 0) s n, before_before (take i xs) (get_or xs i 0 ∷ []), take_more xs i 0 h)
-
-pub cut_here : (s : ℕ) (xs : List ℕ) (i : ℕ) → i < length xs → get_or xs i 0 ≡ s → Uncut s xs i → pieces s xs ≡ take i xs ∷ pieces s (drop (i + 1) xs)
-unfolding pieces
-cut_here s xs i h e u =
-    u ∙ ap (λ x. before (take i xs) (pieces s x)) (drop_more xs i 0 h) ∙ rw (eq-eqb (get_or xs i 0) s e, append-nil (take i xs))
-
-pub cut_nowhere : (s : ℕ) (xs : List ℕ) (i : ℕ) → length xs ≤ i → Uncut s xs i → pieces s xs ≡ xs ∷ []
-unfolding pieces
-cut_nowhere s xs i h u =
-    u ∙ ap (λ x. before (take i xs) (pieces s x)) (drop_all i xs h) ∙ rw (take_all i xs h, append-nil xs)
+cut_nowhere s xs n = slice_split_none (λ x. eqb x s) xs (λ k d w. n k d (omega arith) w)

@@ -1,3 +1,4 @@
 pub mod Cuts
 pub mod Words
 pub mod Numbers
+pub mod Running

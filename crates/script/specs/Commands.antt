@@ -1,5 +1,5 @@
 -- The words of a line as an order.
-use Rattle.std.specs.Prelude.{ℕ, Bool, cond, List, [], ◌∷◌, length, Some, None, Ok, Err, vec_items, codes, Option, Result, ◌==◌, slice_index}
+use Rattle.std.specs.Prelude.{ℕ, cond, List, [], ◌∷◌, length, Some, None, Ok, Err, vec_items, codes, Option, Result, ◌==◌, slice_index}
 use Rattle.std.specs.Str.{bytes_eq}
 use Rattle.timing.specs.declared.refusal.Refusal.{Refusal}
 use Rattle.timing.specs.declared.refusal.Refusal.TheVariants.{Malformed}
@@ -7,7 +7,7 @@ use Rattle.script.specs.declared.command.Command.{Command}
 use Rattle.script.specs.declared.command.Command.TheVariants as command
 use Rattle.script.specs.declared.keyword.Keyword.{Keyword}
 use Rattle.script.specs.declared.keyword.Keyword.TheVariants as keyword
-use Rattle.script.specs.Text.{numbers}
+use Rattle.script.specs.Text.{is_comment, numbers}
 
 -- a command, with lists in the place of the code's vectors
 pub data Order : Type 0 where
@@ -19,7 +19,7 @@ pub data Order : Type 0 where
   end : Order
 
 abbrev pub meant : Command → Order
-meant (command.Settings s d e n) = settings s d e n
+meant (command.Settings s) = settings s.ticks s.delay s.error s.last
 meant (command.Receivers n) = receivers n
 meant (command.Clocks ts) = clocks (vec_items ts)
 meant (command.Clock r t) = clock r t
@@ -52,10 +52,6 @@ abbrev pub command_of : Option Keyword → (numbers : Result (List ℕ) Refusal)
 command_of None ns = Err Malformed
 command_of (Some k) (Err e) = Err e
 command_of (Some k) (Ok ns) = order_of k ns
-
--- a comment's first word begins with #, 35
-abbrev pub is_comment : List ℕ → Bool
-is_comment w = slice_index w 0 == 35
 
 abbrev pub some : Result Order Refusal → Result (Option Order) Refusal
 some (Ok o) = Ok (Some o)

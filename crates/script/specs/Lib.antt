@@ -1,3 +1,4 @@
 pub mod Text
 pub mod Stops
 pub mod Commands
+pub mod Reading

@@ -1,30 +1,41 @@
 -- Bytes as lines, words and decimal numbers.
-use Rattle.std.specs.Prelude.{ℕ, ◌+◌, ◌-◌, ◌*◌, ◌^◌, Bool, cond, ◌&&◌, List, [], ◌∷◌, ◌++◌, Some, None, Ok, Err, Option, Result, ◌==◌, nat_le, nat_lt}
+use Rattle.std.specs.Prelude.{◌≡◌, ℕ, ◌+◌, ◌-◌, ◌*◌, ◌^◌, Bool, cond, not, ◌&&◌, List, [], ◌∷◌, length, drop, filter, Some, None, Ok, Err, Option, Result, ◌==◌, ◌<◌, ◌⊎◌, nat_le, nat_lt, slice_get, slice_index}
+use Rattle.std.specs.List.{slice_split, join_with_byte}
 use Rattle.timing.specs.declared.refusal.Refusal.{Refusal}
 use Rattle.timing.specs.declared.refusal.Refusal.TheVariants.{Malformed}
 
--- bytes put before the first piece
-abbrev pub before : List ℕ → List (List ℕ) → List (List ℕ)
-before a [] = a ∷ []
-before a (p ∷ ps) = (a ++ p) ∷ ps
-
 -- what stands between the separators
 unfoldable pub pieces : (separator : ℕ) → List ℕ → List (List ℕ)
-pieces s [] = [] ∷ []
-pieces s (b ∷ bs) = cond (b == s) ([] ∷ pieces s bs) (before (b ∷ []) (pieces s bs))
+pieces s = slice_split (λ b. b == s)
 
 abbrev pub lines_of : List ℕ → List (List ℕ)
 lines_of = pieces 10
 
--- the pieces that are not empty
-unfoldable pub filled : List (List ℕ) → List (List ℕ)
-filled [] = []
-filled ([] ∷ ps) = filled ps
-filled ((b ∷ bs) ∷ ps) = (b ∷ bs) ∷ filled ps
+-- what stands before the first separator and what stands behind it; or all, and nothing, where there is none
+abbrev pub FirstPiece : (separator : ℕ) → (s first behind : List ℕ) → Type 0
+FirstPiece c s p r = ((pieces c s ≡ p ∷ pieces c r) × (length r < length s)) ⊎ ((pieces c s ≡ s ∷ []) × (p ≡ s) × (r ≡ []))
 
--- words are separated by spaces
-abbrev pub words : List ℕ → List (List ℕ)
-words s = filled (pieces 32 s)
+-- words are separated by spaces (32): the pieces that are not empty
+unfoldable pub words : List ℕ → List (List ℕ)
+words s = filter (λ w. not (length w == 0)) (pieces 32 s)
+
+-- the pieces of a line from its first word on
+unfoldable pub from_word : List (List ℕ) → List (List ℕ)
+from_word [] = []
+from_word ([] ∷ ps) = from_word ps
+from_word ((b ∷ bs) ∷ ps) = (b ∷ bs) ∷ ps
+
+-- the first word of a line
+unfoldable pub word_of : List ℕ → Option (List ℕ)
+word_of line = slice_get (from_word (pieces 32 line)) 0
+
+-- what stands behind the first word and one space
+unfoldable pub rest_of : List ℕ → List ℕ
+rest_of line = join_with_byte 32 (drop 1 (from_word (pieces 32 line)))
+
+-- a comment's first word begins with #, 35
+abbrev pub is_comment : List ℕ → Bool
+is_comment w = slice_index w 0 == 35
 
 abbrev pub is_digit : ℕ → Bool
 is_digit b = nat_le 48 b && nat_le b 57

@@ -1,8 +1,7 @@
 // A line of a script as a command.
 ghost use Rattle.std.specs.Prelude.{◌≡◌};
 ghost use Rattle.std.specs.Option.{option_map};
-ghost use Rattle.std.specs.Str.{bytes_eq};
-ghost use Rattle.script.specs.Commands.{keyword_of, meant, order_of, command_of, is_comment, line_of};
+ghost use Rattle.script.specs.Commands.{keyword_of, meant, order_of, command_of, line_of};
 ghost use Rattle.script.specs.Stops.{Gives};
 ghost use Rattle.script.specs.Text.{words, numbers};
 
@@ -10,60 +9,22 @@ use crate::keyword::Keyword;
 use crate::stop::Stop;
 use crate::text;
 use std::alloc::Global;
+use timing::parameters::Numbers;
 use timing::refusal::Refusal;
 
 #[derive(Drop)]
 pub enum Command {
     // the numbers of the settings
-    Settings {
-        ticks: u64,
-        delay: u64,
-        error: u64,
-        last: u64,
-    },
+    Settings(Numbers),
     // how many receivers there are
     Receivers(u64),
     // what every clock shows now
     Clocks(Vec<u64>),
     // what one clock shows now; receivers count from 1
-    Clock {
-        receiver: u64,
-        tick: u64,
-    },
+    Clock { receiver: u64, tick: u64 },
     // a message of this interval reaches every receiver
     Message(u64),
     End,
-}
-
-fn same(a: &[u8], b: &[u8]) -> bool
-    ensures { result ≡ bytes_eq a.now b.now }
-{
-    a == b
-}
-
-// The command that a word names.
-pub fn keyword(word: &[u8]) -> Option<Keyword>
-    ensures { result ≡ keyword_of word.now }
-{
-    if same(word, b"settings") {
-        return Some(Keyword::Settings);
-    }
-    if same(word, b"receivers") {
-        return Some(Keyword::Receivers);
-    }
-    if same(word, b"clocks") {
-        return Some(Keyword::Clocks);
-    }
-    if same(word, b"clock") {
-        return Some(Keyword::Clock);
-    }
-    if same(word, b"message") {
-        return Some(Keyword::Message);
-    }
-    if same(word, b"end") {
-        return Some(Keyword::End);
-    }
-    None
 }
 
 // A command of its fields, all of which are numbers.
@@ -71,19 +32,16 @@ pub fn with_numbers(keyword: Keyword, numbers: Vec<u64>) -> Result<Command, Stop
     ensures { Gives meant result (order_of keyword numbers.items) }
 {
     let command = match (keyword, numbers.as_slice()) {
-        (Keyword::Settings, [ticks, delay, error, last]) => Command::Settings {
-            ticks: *ticks,
-            delay: *delay,
-            error: *error,
-            last: *last,
-        },
-        (Keyword::Receivers, [count]) => Command::Receivers(*count),
+        (Keyword::Settings, &[ticks, delay, error, last]) => Command::Settings(Numbers {
+            ticks,
+            delay,
+            error,
+            last,
+        }),
+        (Keyword::Receivers, &[count]) => Command::Receivers(count),
         (Keyword::Clocks, _) => Command::Clocks(numbers),
-        (Keyword::Clock, [receiver, tick]) => Command::Clock {
-            receiver: *receiver,
-            tick: *tick,
-        },
-        (Keyword::Message, [interval]) => Command::Message(*interval),
+        (Keyword::Clock, &[receiver, tick]) => Command::Clock { receiver, tick },
+        (Keyword::Message, &[interval]) => Command::Message(interval),
         (Keyword::End, []) => Command::End,
         _ => return Err(Stop::Fault(Refusal::Malformed)),
     };
@@ -94,20 +52,9 @@ pub fn with_numbers(keyword: Keyword, numbers: Vec<u64>) -> Result<Command, Stop
 pub fn begun_by(heap: Global, word: &[u8], fields: &[u8]) -> Result<Command, Stop>
     ensures { Gives meant result (command_of (keyword_of word.now) (numbers (words fields.now))) }
 {
-    let Some(keyword) = keyword(word) else {
-        return Err(Stop::Fault(Refusal::Malformed));
-    };
+    let keyword = Keyword::try_from(word)?;
     let numbers = text::numbers(heap, fields)?;
     with_numbers(keyword, numbers)
-}
-
-fn is_comment(word: &[u8]) -> bool
-    ensures { result ≡ is_comment word.now }
-{
-    if word.is_empty() {
-        return false;
-    }
-    word[0] == b'#'
 }
 
 // A line as a command; an empty line and a comment are none.
@@ -117,7 +64,7 @@ pub fn parse(heap: Global, line: &[u8]) -> Result<Option<Command>, Stop>
     let Some((word, fields)) = text::next_word(line) else {
         return Ok(None);
     };
-    if is_comment(word) {
+    if word.starts_with(b"#") {
         return Ok(None);
     }
     let command = begun_by(heap, word, fields)?;

@@ -2,6 +2,8 @@
 #![tactic(auto)]
 
 pub mod command;
+pub mod error;
 pub mod keyword;
+pub mod reader;
 pub mod stop;
 pub mod text;

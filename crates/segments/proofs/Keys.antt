@@ -1,12 +1,12 @@
 -- Keys worked out one below another are the chain's.
-use Rattle.std.proofs.Common.{◌≡◌, ℕ, zero, suc, ◌+◌, ◌-◌, ◌*◌, ◌/◌, ◌<◌, ◌≤◌, ◌≢◌, List, ◌++◌, length, get_or, take, drop, set, sym, refl, ap, ◌∙◌, ⊎_elim, suc-add, zero-add, arith, length-drop, below_more}
-use Rattle.std.proofs.lemmas.List.{length-append, get_or_append_left, get_or-set_same, get_or-set_other, get_or-take, get_or-drop}
+use Rattle.std.proofs.Common.{◌≡◌, ℕ, zero, suc, ◌+◌, ◌-◌, ◌*◌, ◌/◌, ◌<◌, ◌≤◌, ◌≢◌, List, ◌++◌, length, get_or, set, sym, refl, ap, ◌∙◌, ⊎_elim, suc-add, zero-add, arith, below_more}
+use Rattle.std.proofs.lemmas.List.{get_or_append_left, get_or-set_same, get_or-set_other}
 use Rattle.std.proofs.lemmas.Bool.{cases_eq}
 use Rattle.model.specs.Receiver.{walked}
 use Rattle.keychain.specs.Chain.{stepped, key_down, absent_key}
 use Rattle.keychain.specs.declared.key.Key.{Key}
-use Rattle.keychain.proofs.Chains.{down_none, down_more}
-use Rattle.segments.specs.Parts.{at, key_at, Descent, top_of, drawn_in, EndsAre}
+use Rattle.keychain.proofs.Chains.{down_none}
+use Rattle.segments.specs.Parts.{at, key_at, top_of, drawn_in, EndsAre}
 
 down_suc : (n : ℕ) (key : List ℕ) → key_down (suc n) key ≡ stepped (key_down n key)
 unfolding walked
@@ -22,45 +22,18 @@ key_from last i j m drawn key h e k =
     let f : last - i ≡ m + (last - j) = omega arith in
     rw (k, f, down_add)
 
-pub descent_one : (ks : List Key) → Descent 1 (at ks 0) ks
-descent_one ks j h = let e : j ≡ 0 = omega arith in rw (e, down_none)
+-- one more of the keys below this one
+pub below_keys : (i : ℕ) (key : List ℕ) (ks : List Key) (v : Key) → i < length ks → v.bytes ≡ key_down (i + 1) key → ((j : ℕ) → j < i → at ks j ≡ key_down (j + 1) key)
+    → (j : ℕ) → j < i + 1 → at (set ks i v) j ≡ key_down (j + 1) key
+below_keys i key ks v h is before =
+    below_more _ i
+    (λ j lt. let ne : j ≢ i = omega arith in ap (λ (k : Key). k.bytes) (get_or-set_other ks i j v absent_key ne) ∙ before j lt)
+    (ap (λ (k : Key). k.bytes) (get_or-set_same ks i v absent_key h) ∙ is)
 
-pub descent_more : (n : ℕ) (key : List ℕ) (ks : List Key) (v : Key) → 0 < n → n < length ks → Descent n key ks → v.bytes ≡ stepped (at ks (n - 1)) → Descent (n + 1) key (set ks n v)
-descent_more n key ks v pos h d is =
-    below_more (λ j. at (set ks n v) j ≡ key_down j key) n
-    (λ j lt. let ne : j ≢ n = omega arith in ap (λ (k : Key). k.bytes) (get_or-set_other ks n j v absent_key ne) ∙ d j lt)
-    (let e : n ≡ (n - 1) + 1 = omega arith in
-    let m = down_more (n - 1) key in
-    let b = d (n - 1) (omega arith) in
-    let f : key_down n key ≡ key_down ((n - 1) + 1) key = ap (λ (x : ℕ). key_down x key) e in
-    let g = ap (λ (k : Key). k.bytes) (get_or-set_same ks n v absent_key h) in
-    let s : stepped (at ks (n - 1)) ≡ stepped (key_down (n - 1) key) = ap stepped b in
-    g ∙ (is ∙ (s ∙ (sym m ∙ sym f))))
-
-pub descent_fewer : (n m : ℕ) (key : List ℕ) (ks : List Key) → m ≤ n → Descent n key ks → Descent m key ks
-descent_fewer n m key ks h d j lt = d j (omega arith)
-
--- keys written from the key of interval top down are the chain's
-pub descent_keys : (last top j : ℕ) (drawn key : List ℕ) (ks post : List Key) → top ≤ last → j ≤ top → j < length ks → key ≡ key_at last drawn top → Descent (length ks) key ks →
-    at (ks ++ post) j ≡ key_at last drawn (top - j)
-descent_keys last top j drawn key ks post lies_in_chain h l is d =
-    let a = ap (λ (k : Key). k.bytes) (get_or_append_left ks post absent_key j l) in
-    let b = key_from last (top - j) top j drawn key lies_in_chain (omega arith) is in
-    a ∙ (d j l ∙ b)
-
--- the first key of a part that is lent, once it was written
-pub first_lent : (n : ℕ) (ks : List Key) (v : Key) → 0 < n → 0 < length ks → at (take n (drop 0 (set ks 0 v))) 0 ≡ v.bytes
-first_lent n ks v pos h = ap (λ (k : Key). k.bytes) (get_or-take n (drop 0 (set ks 0 v)) 0 absent_key pos ∙ (get_or-drop 0 (set ks 0 v) 0 absent_key ∙ get_or-set_same ks 0 v absent_key h))
-
--- an array whose first places were lent is as long as before
-pub lent_long : (n m : ℕ) (old ks : List Key) → n ≤ m → length old ≡ m → length ks ≡ n → length (ks ++ drop n (drop 0 old)) ≡ m
-lent_long n m old ks h l e = simp (length-append, length-drop) (omega arith)
-
--- keys written below the first one of a lent part, which is the key of interval top, are the chain's
-pub lent_keys : (last top n j : ℕ) (drawn : List ℕ) (v : Key) (old ks post : List Key) → top ≤ last → j ≤ top → 0 < n → 0 < length old → j < length ks →
-    v.bytes ≡ key_at last drawn top → Descent (length ks) (at (take n (drop 0 (set old 0 v))) 0) ks → at (ks ++ post) j ≡ key_at last drawn (top - j)
-lent_keys last top n j drawn v old ks post lies_in_chain h pos some l is d =
-    descent_keys last top j drawn (at (take n (drop 0 (set old 0 v))) 0) ks post lies_in_chain h l (first_lent n old v pos some ∙ is) d
+-- of keys written from that of interval top down each is the chain's
+pub filled_at : (ks post : List Key) (last top j : ℕ) (drawn : List ℕ) → j < length ks → top ≤ last → j ≤ top → at ks j ≡ key_down j (key_at last drawn top) → at (ks ++ post) j ≡ key_at last drawn (top - j)
+filled_at ks post last top j drawn l in_chain h is =
+    ap (λ (k : Key). k.bytes) (get_or_append_left ks post absent_key j l) ∙ (is ∙ key_from last (top - j) top j drawn (key_at last drawn top) in_chain (omega arith) refl)
 
 -- the key of the last interval
 pub key_last : (last m : ℕ) (drawn : List ℕ) → m ≡ last → drawn ≡ key_at last drawn m

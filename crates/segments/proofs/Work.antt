@@ -4,7 +4,7 @@ use Rattle.std.proofs.lemmas.Bool.{cond_both, eqb-true, eqb-false, ne_eqb, eq-eq
 use Rattle.std.proofs.lemmas.Bool.Decides.{nat_tests}
 use Rattle.segments.specs.Parts.{part_of, top_of}
 use Rattle.segments.specs.Work.{below, part_work, tail_work, work, works, times, Rising}
-use Rattle.segments.specs.Laws.{Few, Once, Enough}
+use Rattle.segments.specs.Laws.{Once, Enough}
 
 pub length_below : (n i : ℕ) → length (below n i) ≡ n
 unfolding below
@@ -96,6 +96,3 @@ length_none last delay from to e = rw (eq-eqb to from e)
 
 pub enough : Enough
 enough s i pos at = (grind (arith, nat_tests), (λ l. grind (arith, nat_tests)), λ k p h. grind (arith, nat_tests))
-
-pub few : Few
-few s = omega (arith, s.ends_long, s.keys_long, s.tail_long)

@@ -1,30 +1,36 @@
 // Keys worked out one below another.
-ghost use Rattle.std.specs.Prelude.{◌≡◌, ℕ, ◌-◌, ◌<◌, List, length, slice_index_or};
-ghost use Rattle.keychain.specs.Chain.{key_down, absent_key};
+ghost use Rattle.std.specs.Prelude.{◌≡◌, ℕ, ◌-◌, ◌<◌, List, length};
+ghost use Rattle.keychain.specs.Chain.{key_down};
 ghost use Rattle.segments.specs.Parts.{Descent};
 
 use keychain::key::Key;
 
-// Goes so many intervals down.
-pub(crate) fn go_down(key: &mut Key, steps: usize)
-    ensures { key.new.bytes ≡ key_down steps key.old.bytes }
+// The key so many intervals before.
+#[tactic(auto, using(keychain::proofs::Chains::down_none, keychain::proofs::Chains::down_more))]
+pub(crate) fn down(mut key: Key, steps: usize) -> Key
+    ensures { result.bytes ≡ key_down steps key.bytes }
 {
     for _i in 0..steps {
-        *key = key.previous();
+        key = key.previous();
     }
+    key
 }
 
-// Writes below the first key those before it: at place j the key j intervals before. Gives how many it worked out.
-pub(crate) fn descend(keys: &mut [Key]) -> usize
-    ensures written { Descent (length keys.old) (slice_index_or keys.old 0 absent_key).bytes keys.new }
+// Writes a key and below it those before it: at place j the key j intervals before. Gives how many it worked out.
+#[tactic(auto, using(keychain::proofs::Chains::down_none, keychain::proofs::Chains::down_more))]
+pub(crate) fn descend(keys: &mut [Key], top: Key) -> usize
+    ensures long { length keys.new ≡ length keys.old }
+    ensures written { Descent (length keys.old) top.bytes keys.new }
     ensures worked { result ≡ length keys.old - 1 }
 {
-    let n = keys.len();
-    if n == 0 {
+    let Some((first, below)) = keys.split_first_mut() else {
         return 0;
+    };
+    *first = top;
+    let mut key = top;
+    for place in below.iter_mut() {
+        key = key.previous();
+        *place = key;
     }
-    for i in 1..n {
-        keys[i] = keys[i - 1].previous();
-    }
-    n - 1
+    below.len()
 }

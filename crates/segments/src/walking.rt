@@ -1,136 +1,84 @@
 // The chain made from the key that was drawn, and walked from part to part.
-ghost use Rattle.std.specs.Prelude.{◌≡◌, ℕ, ◌+◌, ◌-◌, ◌*◌, ◌<◌, ◌≤◌, List, length, if◌then◌else◌, nat_eq, slice_index_or};
-ghost use Rattle.keychain.specs.Chain.{absent_key, zero_key};
-ghost use Rattle.segments.specs.Parts.{at, key_at, part_of, top_of, EndsAre, KeysAre, TailIs};
+ghost use Rattle.std.specs.Prelude.{◌≡◌, ℕ, ◌+◌, ◌-◌, ◌*◌, List, length, if◌then◌else◌, nat_eq};
+ghost use Rattle.segments.specs.Parts.{at, key_at, part_of, top_of, drawn_in, EndsAre, KeysAre, TailIs};
 ghost use Rattle.segments.specs.Held.{last_of, Same, Made, key_of, bytes_of};
 ghost use Rattle.segments.specs.Laws.{Few, Once, Enough};
 ghost use Rattle.segments.specs.Work.{work};
 
-use crate::descent::{descend, go_down};
-use crate::parts::Segments;
+use crate::descent::{descend, down};
+use crate::parts::{Part, Segments};
 use keychain::key::Key;
 use timing::parameters::Parameters;
 
-fn part_of(last: usize, interval: usize) -> usize
-    ensures { result ≡ part_of last interval }
-{
-    let i = if interval < last { interval } else { last };
-    if i == 0 { 0 } else { (i - 1) / 128 }
-}
-
-fn top_of(last: usize, part: usize) -> usize
-    requires { part < 128 }
-    ensures { result ≡ top_of last part }
-{
-    let end = 128 * part + 128;
-    if end < last { end } else { last }
-}
-
-// Moves the first nine keys of a part into `tail`.
-fn keep_tail(tail: &mut [Key; 9], keys: &[Key; 128])
-    ensures long { length tail.new ≡ 9 }
-    ensures kept { (j : ℕ) → j < 9 → slice_index_or tail.new j absent_key ≡ slice_index_or keys.now j absent_key }
-{
-    for i in 0..9 {
-        tail[i] = keys[i];
-    }
-}
-
 // Works out the keys of a part from its last one.
-fn fill_part(keys: &mut [Key; 128], ends: &[Key; 128], last: usize, part: usize) -> usize
-    requires part_bound { 128 * part < last }
-    requires last_bound { last ≤ 16384 }
+#[tactic(auto, using(crate::proofs::Keys::filled_at))]
+fn fill_part(keys: &mut [Key; 128], ends: &[Key; 128], part: Part) -> usize
     ensures long { length keys.new ≡ 128 }
-    ensures filled { (drawn : List ℕ) → at ends.now part ≡ key_at last drawn (top_of last part) → KeysAre last part drawn keys.new }
-    ensures worked { result ≡ top_of last part - 128 * part - 1 }
+    ensures filled { (drawn : List ℕ) → at ends.now part.number ≡ key_at part.parameters.last drawn (top_of part.parameters.last part.number) → KeysAre part.parameters.last part.number drawn keys.new }
+    ensures worked { result ≡ top_of part.parameters.last part.number - 128 * part.number - 1 }
 {
-    let size = top_of(last, part) - 128 * part;
-    keys[0] = ends[part];
-    descend(&mut keys[0..size])
+    descend(&mut keys[0..part.size()], ends[part.number])
 }
 
-// The last keys of the part before the one that is entered: moved, or worked out.
+// The last keys of the part before the one that is entered: moved from `keys`, those of part `from`, or worked out.
+#[tactic(auto, using(crate::proofs::Keys::filled_at))]
 fn fill_tail(
     tail: &mut [Key; 9],
     keys: &[Key; 128],
     ends: &[Key; 128],
-    last: usize,
-    delay: usize,
     from: usize,
-    to: usize,
+    to: Part,
 ) -> usize
-    requires to_bound { 128 * to < last }
-    requires from_bound { 128 * from < last }
-    requires last_bound { last ≤ 16384 }
-    requires delay_bound { delay ≤ 8 }
     ensures long { length tail.new ≡ 9 }
-    ensures filled { (drawn : List ℕ) → EndsAre last drawn ends.now → KeysAre last from drawn keys.now → TailIs last to delay drawn tail.new }
-    ensures worked { result ≡ (if nat_eq to (from + 1) then 0 else (if nat_eq to 0 then 0 else delay)) }
+    ensures filled { (drawn : List ℕ) → EndsAre to.parameters.last drawn ends.now → KeysAre to.parameters.last from drawn keys.now → TailIs to.parameters.last to.number to.parameters.delay drawn tail.new }
+    ensures worked { result ≡ (if nat_eq to.number (from + 1) then 0 else (if nat_eq to.number 0 then 0 else to.parameters.delay)) }
 {
-    if to == from + 1 {
-        keep_tail(tail, keys);
-        0
-    } else if to > 0 {
-        tail[0] = ends[to - 1];
-        descend(&mut tail[0..delay + 1])
-    } else {
-        0
+    match to.number.checked_sub(1) {
+        None => 0,
+        Some(before) if before == from => {
+            tail.copy_from_slice(&keys[0..9]);
+            0
+        }
+        Some(before) => {
+            let delay = usize::from(to.parameters.delay);
+            descend(&mut tail[0..delay + 1], ends[before])
+        }
     }
 }
 
 // Stores the last key of each part, from the key that was drawn down, and gives key 0.
-fn store_ends(ends: &mut [Key; 128], last: usize, mut key: Key) -> Key
-    requires le_last { 1 ≤ last }
-    requires last_bound { last ≤ 16384 }
+fn store_ends(ends: &mut [Key; 128], parameters: Parameters, drawn: Key) -> Key
     ensures long { length ends.new ≡ 128 }
-    ensures stored { EndsAre last key.bytes ends.new }
-    ensures first { result.bytes ≡ key_at last key.bytes 0 }
+    ensures drawn { drawn_in parameters.last ends.new ≡ drawn.bytes }
+    ensures stored { EndsAre parameters.last (drawn_in parameters.last ends.new) ends.new }
+    ensures first { result.bytes ≡ key_at parameters.last drawn.bytes 0 }
 {
-    let parts = (last - 1) / 128 + 1;
-    for k in 0..parts {
-        let part = parts - 1 - k;
-        ends[part] = key;
-        go_down(&mut key, top_of(last, part) - 128 * part);
+    let parts = usize::from(parameters.last).div_ceil(128);
+    let mut key = drawn;
+    for number in (0..parts).rev() {
+        ends[number] = key;
+        let part = Part { parameters, number };
+        key = down(key, part.size());
     }
     key
 }
 
-// The places of a chain before it is made: one interval, and a key of zeros.
-fn smallest() -> Parameters
-    ensures { result.last ≡ 1 }
-{
-    Parameters {
-        ticks: 1,
-        delay: 1,
-        error: 0,
-        last: 1,
-    }
-}
-
-fn no_keys() -> [Key; 128]
-    ensures long { length result ≡ 128 }
-    ensures first { slice_index_or result 0 absent_key ≡ zero_key }
-{
-    [Key { bytes: [0; 32] }; 128]
-}
-
-fn no_tail() -> [Key; 9]
-    ensures { length result ≡ 9 }
-{
-    [Key { bytes: [0; 32] }; 9]
-}
-
 impl Segments {
-    // Places for a chain that is yet to be made, all zeros.
+    // Places for a chain that is yet to be made, all zeros: that of one interval, with a key of zeros.
     pub fn blank() -> Segments
         ensures { result.part ≡ 0 }
     {
         Segments {
-            parameters: smallest(),
+            parameters: Parameters {
+                ticks: 1,
+                delay: 1,
+                error: 0,
+                last: 1,
+            },
             part: 0,
-            ends: no_keys(),
-            keys: no_keys(),
-            tail: no_tail(),
+            ends: [Key::ZERO; 128],
+            keys: [Key::ZERO; 128],
+            tail: [Key::ZERO; 9],
         }
     }
 
@@ -139,9 +87,12 @@ impl Segments {
         ensures made { Made parameters drawn.bytes self.new }
         ensures first { result.bytes ≡ key_at parameters.last drawn.bytes 0 }
     {
-        let last = parameters.last as usize;
-        let zero = store_ends(&mut self.ends, last, drawn);
-        let _made = fill_part(&mut self.keys, &self.ends, last, 0);
+        let zero = store_ends(&mut self.ends, parameters, drawn);
+        let first = Part {
+            parameters,
+            number: 0,
+        };
+        let _made = fill_part(&mut self.keys, &self.ends, first);
         self.parameters = parameters;
         self.part = 0;
         zero
@@ -153,21 +104,32 @@ impl Segments {
         self.parameters
     }
 
+    // The part where it is.
+    fn here(&self) -> Part
+        ensures parameters { result.parameters ≡ self.now.parameters }
+        ensures number { result.number ≡ self.now.part }
+    {
+        Part {
+            parameters: self.parameters,
+            number: self.part,
+        }
+    }
+
     // The key of an interval, where it is held.
     pub fn key(&self, interval: u16) -> Option<Key>
         ensures { bytes_of result ≡ key_of self.now interval }
     {
-        let i = interval as usize;
-        let last = self.parameters.last as usize;
+        if !self.parameters.has_interval(interval) {
+            return None;
+        }
+        let i = usize::from(interval);
         let low = 128 * self.part;
-        let top = top_of(last, self.part);
-        if i == 0 || i > last {
-            None
-        } else if i > low && i <= top {
+        let top = self.here().top();
+        if i > low && i <= top {
             Some(self.keys[top - i])
-        } else if i % 128 == 0 || i == last {
+        } else if i % 128 == 0 || interval == self.parameters.last {
             Some(self.ends[(i - 1) / 128])
-        } else if i <= low && low - i <= self.parameters.delay as usize {
+        } else if i <= low && low - i <= usize::from(self.parameters.delay) {
             Some(self.tail[low - i])
         } else {
             None
@@ -175,28 +137,19 @@ impl Segments {
     }
 
     // Goes to the part of an interval, and gives how many keys it worked out for that.
+    #[tactic(auto, using(crate::proofs::Work::length_work, crate::proofs::Work::length_none))]
     pub fn enter(&mut self, interval: u16) -> usize
         ensures same { Same self.new self.old }
         ensures there { self.new.part ≡ part_of (last_of self.old) interval }
         ensures worked { result ≡ length (work (last_of self.old) self.old.parameters.delay self.old.part (part_of (last_of self.old) interval)) }
     {
-        let last = self.parameters.last as usize;
-        let delay = self.parameters.delay as usize;
-        let part = part_of(last, interval as usize);
-        if part == self.part {
+        let to = Part::of(self.parameters, interval);
+        if to.number == self.part {
             return 0;
         }
-        let moved = fill_tail(
-            &mut self.tail,
-            &self.keys,
-            &self.ends,
-            last,
-            delay,
-            self.part,
-            part,
-        );
-        let made = fill_part(&mut self.keys, &self.ends, last, part);
-        self.part = part;
+        let moved = fill_tail(&mut self.tail, &self.keys, &self.ends, self.part, to);
+        let made = fill_part(&mut self.keys, &self.ends, to);
+        self.part = to.number;
         moved + made
     }
 }

@@ -1,17 +1,14 @@
 -- The cases of a tick, and of saying something.
-use Rattle.std.proofs.Common.{◌≡◌, ℕ, ◌+◌, ◌<◌, ◌≤◌, min, true, false, cond, eqb, leb, List, length, take, drop, Some, None, Ok, Err, Result, sym, ap, ◌∙◌, arith}
-use Rattle.std.proofs.lemmas.List.{take_at}
-use Rattle.std.proofs.lemmas.Bool.{lt-ltb, le-ltb, le-leb, eq-eqb, ne_eqb, cond-true, cond-false}
+use Rattle.std.proofs.Common.{◌≡◌, ℕ, ◌<◌, ◌≤◌, min, true, false, cond, leb, List, length, ◌∙◌, arith}
+use Rattle.std.proofs.lemmas.Bool.{lt-ltb, le-ltb, le-leb, cond-true}
 use Rattle.std.proofs.lemmas.Bool.Decides.{nat_tests}
-use Rattle.timing.specs.declared.refusal.Refusal.{Refusal}
 use Rattle.timing.specs.declared.refusal.Refusal.TheVariants.{Malformed, OutOfRange}
 use Rattle.model.specs.Receiver.{message_bytes}
 use Rattle.keychain.specs.Chain.{tagged}
 use Rattle.wire.specs.Bytes.{over}
-use Rattle.wire.specs.Formats.{packet, key_encoded}
-use Rattle.turns.specs.declared.Turn.{Turn}
-use Rattle.turns.specs.Turns.{disclosed, afterwards}
-use Rattle.sender.specs.State.{State, interval, newest, key_of, advanced, due, alone, told_alone, shown_key, ticked, tick_answer, tick_bytes, back, nothing, said, say_answer, refused, sent, may_not, key_shown, after_said, message_of}
+use Rattle.wire.specs.Formats.{packet}
+use Rattle.turns.specs.Turns.{disclosed}
+use Rattle.sender.specs.State.{State, interval, newest, key_of, advanced, due, alone, told_alone, shown_key, ticked, tick_answer, back, nothing, said, say_answer, refused, sent, may_not, key_shown, after_said, message_of}
 
 pub at_back : (s : State) (t : ℕ) → t < s.clock → (ticked s t ≡ s) × (tick_answer s t ≡ back)
 unfolding ticked tick_answer
@@ -37,39 +34,13 @@ pub at_sent : (s : State) (text : List ℕ) → length text ≤ 200 → may_not 
 unfolding said say_answer
 at_sent s text h m = (rw (le-ltb 200 (length text) h, m), rw (le-ltb 200 (length text) h, m))
 
--- the bytes that a tick sends
-pub none_shown : (s : State) (t j : ℕ) → s.clock ≤ t → due (advanced s t) ≡ true → j ≡ alone (advanced s t) → j ≡ 0 → Ok None ≡ tick_bytes (tick_answer s t)
-none_shown s t j h d is z =
-    let e = (at_due s t h d).1 ∙ cond-true (eqb (alone (advanced s t)) 0) _ _ (eq-eqb _ 0 (sym is ∙ z)) in
-    sym (ap tick_bytes e)
-
-pub some_shown : (s : State) (t j : ℕ) (key : List ℕ) → s.clock ≤ t → due (advanced s t) ≡ true → j ≡ alone (advanced s t) → (j ≡ 0 → ⊥) → key ≡ key_of s j →
-    Ok (Some (key_encoded (record { interval = j; key = key }))) ≡ tick_bytes (tick_answer s t)
-some_shown s t j key h d is some k =
-    let e = (at_due s t h d).1 ∙ (ap (shown_key s) (sym is) ∙ cond-false (eqb j 0) _ _ (ne_eqb j 0 some)) in
-    rw k (sym (ap tick_bytes e))
-
--- the bytes at the front of memory
-pub front : (n : ℕ) (w old b : List ℕ) → b ≡ over w old → n ≡ length w → take n (drop 0 b) ≡ w
-front n w old b e l = rw e (take_at w (drop (length w) old) n (sym l))
-
 pub lies_in_range : (s : State) (i : ℕ) → i ≡ min (interval s) 65535 → may_not s ≡ false → s.numbers.last ≤ 16384 → i ≡ interval s
 lies_in_range s i e m h = grind (arith, nat_tests)
 
-pub lies_in_chain : (s : State) → may_not s ≡ false → interval s ≤ s.numbers.last
-lies_in_chain s m = grind (arith, nat_tests)
-
-pub message_is : (s : State) (text tag key : List ℕ) (i j : ℕ) → i ≡ interval s → j ≡ disclosed s.turn (newest s) → tag ≡ tagged (key_of s i) (message_bytes (record { interval = i; index = s.index; text = text })) → key ≡ key_shown s j →
+pub message_is : (s : State) (text tag key : List ℕ) (i j : ℕ) → i ≡ interval s → j ≡ disclosed s.turn (newest s) → tag ≡ tagged (key_of s (interval s)) (message_bytes (record { interval = i; index = s.index; text = text })) → key ≡ key_shown s j →
     packet (record { interval = i; index = s.index; text = text }) tag (record { interval = j; key = key }) ≡ message_of s text
 message_is s text tag key i j e f g h = rw (g, h, f, e)
 
-pub after_said_lem : (s : State) (t : Turn) → t ≡ afterwards s.turn (newest s) →
-    ◌≡◌ {A = State} (record { numbers = s.numbers; drawn = s.drawn; clock = s.clock; index = s.index + 1; told_in = s.told_in; turn = t }) (after_said s)
-after_said_lem s t e = rw e
-
--- what a writer of wire answers for a text that is short enough
-pub count_is : (n count size : ℕ) (r : Result ℕ Refusal) → r ≡ cond (leb n 200) (Ok size) (Err Malformed) → r ≡ Ok count → n ≤ 200 → count ≡ size
-count_is n count size r e f h = let g : Ok count ≡ Ok size = sym f ∙ (e ∙ cond-true (leb n 200) _ _ (le-leb n 200 h)) in cc
-
+-- the memory after wire wrote a text that is short enough
 pub memory_is : (n : ℕ) (out w old : List ℕ) → out ≡ cond (leb n 200) (over w old) old → n ≤ 200 → out ≡ over w old
 memory_is n out w old e h = e ∙ cond-true (leb n 200) _ _ (le-leb n 200 h)

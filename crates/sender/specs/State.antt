@@ -1,5 +1,5 @@
 -- A sender: what it is after each call, and what it sends.
-use Rattle.std.specs.Prelude.{ℕ, ◌+◌, ◌-◌, min, Bool, cond, not, ◌&&◌, ◌||◌, List, length, Some, None, Ok, Err, Option, Result, ◌==◌, nat_le, nat_lt}
+use Rattle.std.specs.Prelude.{◌≡◌, ℕ, ◌+◌, ◌-◌, min, Bool, cond, not, ◌&&◌, ◌||◌, List, length, Some, None, Ok, Err, Option, Result, ◌==◌, nat_le, nat_lt}
 use Rattle.timing.specs.Time.{Params, interval_at}
 use Rattle.timing.specs.declared.refusal.Refusal.{Refusal}
 use Rattle.timing.specs.declared.refusal.Refusal.TheVariants.{Malformed, OutOfRange, ClockBack}
@@ -141,3 +141,14 @@ sent_length (sent x) = Ok (length (message_encoded x))
 abbrev pub sent_over : Spoken → (memory : List ℕ) → List ℕ
 sent_over (refused e) m = m
 sent_over (sent x) m = over (message_encoded x) m
+
+-- What a tick does: the state before it, the time, the state after it, and the answer.
+pub record Ticks (s : State) (t : ℕ) (u : State) (answer : Result (Option (List ℕ)) Refusal) : Type 0 where
+  pub after : u ≡ ticked s t
+  pub told : answer ≡ tick_bytes (tick_answer s t)
+
+-- What saying a text does: the state before it, the text, the state after it, how many bytes there are, and the memory before and after.
+pub record Says (s : State) (text : List ℕ) (u : State) (count : Result ℕ Refusal) (m n : List ℕ) : Type 0 where
+  pub after : u ≡ said s text
+  pub answer : count ≡ sent_length (say_answer s text)
+  pub memory : n ≡ sent_over (say_answer s text) m

@@ -1,24 +1,24 @@
 // The sender's calls: what it is after each, and the bytes that it sends.
-ghost use Rattle.std.specs.Prelude.{◌≡◌, ℕ, ◌+◌, ◌≤◌, min, Bool, true, false, List, length, if◌then◌else◌, MatchResult, ◌≢◌, nat_eq};
+ghost use Rattle.std.specs.Prelude.{◌≡◌, ◌≤◌, min, true, false, length, if◌then◌else◌, MatchResult, ◌≢◌, nat_eq};
+ghost use Rattle.std.specs.Option.{option_map};
 ghost use Rattle.timing.specs.Time.{params, parameters_of, in_range, interval_at};
 ghost use Rattle.timing.specs.declared.refusal.Refusal.TheVariants.{BadSettings};
 ghost use Rattle.model.specs.Receiver.{message_bytes};
 ghost use Rattle.keychain.specs.Chain.{tagged, zeros};
 ghost use Rattle.wire.specs.Bytes.{over};
-ghost use Rattle.wire.specs.Formats.{message_encoded};
+ghost use Rattle.wire.specs.Formats.{message_encoded, key_encoded};
 ghost use Rattle.wire.specs.Setup.{settings_encoded};
 ghost use Rattle.wire.specs.Values.{said_of};
 ghost use Rattle.segments.specs.Held.{held, drawn_of, last_of};
+ghost use Rattle.segments.specs.Held.{key_of as held_key};
 ghost use Rattle.segments.specs.Parts.{key_at};
-ghost use Rattle.turns.specs.Turns.{afterwards};
 ghost use Rattle.sender.specs.Of.{state_of};
-ghost use Rattle.sender.specs.State.{first_state, setup_for, newest_in, interval, newest, key_of, work_at, advanced, due, alone, told_alone, shown_key, ticked, tick_answer, tick_bytes, message_of, may_not, say_answer, sent_length, sent_over};
-ghost use Rattle.sender.specs.State.{said as said_after};
+ghost use Rattle.sender.specs.State.{first_state, setup_for, newest_in, interval, newest, key_of, work_at, advanced, due, alone, told_alone, after_said, message_of, may_not, Ticks, Says};
 
 use crate::state::Sender;
 use keychain::key::Key;
 use segments::parts::Segments;
-use timing::parameters::Parameters;
+use timing::parameters::{Numbers, Parameters};
 use timing::refusal::Refusal;
 use turns::Turn;
 use wire::key::DisclosedKey;
@@ -29,33 +29,15 @@ use wire::settings::Settings;
 fn interval_of(p: Parameters, t: u64) -> u16
     ensures { result ≡ min (interval_at (parameters_of p) t) 65535 }
 {
-    let i = p.interval_at(t);
-    if i < 65535 { i as u16 } else { 65535 }
+    u16::try_from(p.interval_at(t)).unwrap_or(u16::MAX)
 }
 
-// The interval of the newest key that may be disclosed in an interval, 0 for none.
+// The interval of the newest key that may be disclosed in an interval; 0 for none, as it is sent.
 fn newest_in(p: Parameters, i: u16) -> u16
     ensures { result ≡ newest_in (parameters_of p) i }
 {
-    let wait = p.delay as u16 + 1;
-    if i <= wait {
-        0
-    } else if i - wait < p.last {
-        i - wait
-    } else {
-        p.last
-    }
-}
-
-// A key that is held.
-fn held_key(chain: &Segments, i: u16) -> Key
-    requires { held chain.now i ≡ true }
-    ensures { result.bytes ≡ key_at (last_of chain.now) (drawn_of chain.now) i }
-{
-    match chain.key(i) {
-        Some(key) => key,
-        None => unreachable(),
-    }
+    let wait = u16::from(p.delay) + 1;
+    i.saturating_sub(wait).min(p.last)
 }
 
 // The key that stands behind a message: zeros for none.
@@ -63,26 +45,22 @@ fn shown_key(chain: &Segments, i: u16) -> Key
     requires { (i ≢ 0) → held chain.now i ≡ true }
     ensures { result.bytes ≡ (if nat_eq i 0 then zeros else key_at (last_of chain.now) (drawn_of chain.now) i) }
 {
-    if i == 0 {
-        return Key { bytes: [0; 32] };
-    }
-    held_key(chain, i)
+    chain.key(i).unwrap_or(Key::ZERO)
 }
 
-// The tag of what is said, under its interval's key.
+// The tag of what is said, under its interval's key; what it is of stands in fixed memory, since there is no heap.
 fn tag_of(key: Key, said: Said<'_>) -> [u8; 16]
     requires { length said.text.now ≤ 200 }
     ensures { result ≡ tagged key.bytes (message_bytes (said_of said.entry)) }
 {
     let mut bytes = [0u8; 256];
-    match wire::message::write_under_tag(said, &mut bytes) {
-        Ok(count) => key.tag(&bytes[0..count]),
-        Err(_) => unreachable(),
-    }
+    let count = wire::message::write_under_tag(said, &mut bytes).unwrap();
+    key.tag(&bytes[..count])
 }
 
 impl Sender {
     // A sender before its first tick, from the key of the last interval, which was drawn; and the bytes of its settings, with key 0.
+    // The start and the drawn key go to different places, so no struct holds both.
     pub fn new(parameters: Parameters, start: u64, drawn: Key) -> (Sender, [u8; 47])
         ensures sender { state_of result.0 ≡ first_state (parameters_of parameters) drawn.bytes }
         ensures settings { result.1 ≡ settings_encoded (setup_for (parameters_of parameters) drawn.bytes start) }
@@ -105,17 +83,13 @@ impl Sender {
 
     // The same from numbers that may be out of range.
     pub fn from_numbers(
-        ticks: u16,
-        delay: u8,
-        error: u16,
-        last: u16,
+        numbers: Numbers,
         start: u64,
         drawn: Key,
     ) -> Result<(Sender, [u8; 47]), Refusal>
-        ensures { MatchResult result (λ m. (in_range (params ticks delay error last) ≡ true) × ((state_of m.0 ≡ first_state (params ticks delay error last) drawn.bytes) × (m.1 ≡ settings_encoded (setup_for (params ticks delay error last) drawn.bytes start)))) (λ e. (in_range (params ticks delay error last) ≡ false) × (e ≡ BadSettings)) }
+        ensures { let p = params numbers.ticks numbers.delay numbers.error numbers.last in MatchResult result (λ m. (in_range p ≡ true) × ((state_of m.0 ≡ first_state p drawn.bytes) × (m.1 ≡ settings_encoded (setup_for p drawn.bytes start)))) (λ e. (in_range p ≡ false) × (e ≡ BadSettings)) }
     {
-        let parameters = Parameters::new(ticks, delay, error, last)?;
-        Ok(Sender::new(parameters, start, drawn))
+        Ok(Sender::new(Parameters::try_from(numbers)?, start, drawn))
     }
 
     // The clock goes on. Gives how many keys were worked out for that.
@@ -150,7 +124,7 @@ impl Sender {
     {
         let p = self.chain.parameters();
         let i = self.current();
-        i != self.told_in && i <= p.last + p.delay as u16 + 1
+        i != self.told_in && i <= p.last + u16::from(p.delay) + 1
     }
 
     // The interval whose key is disclosed by itself now, 0 for none; the turn goes on.
@@ -169,55 +143,63 @@ impl Sender {
         j
     }
 
+    // The key of an interval as it is sent by itself, where it is held; key 0 is not.
+    fn sent_alone(&self, interval: u16) -> Option<[u8; 35]>
+        ensures { result ≡ option_map (λ key. key_encoded (record { interval = interval; key = key })) (held_key self.now.chain interval) }
+    {
+        let key = self.chain.key(interval)?;
+        Some(wire::key::write(DisclosedKey {
+            interval,
+            key: &key.bytes,
+        }))
+    }
+
     // The clock is t now; a tick that goes back is refused. Gives the key that is sent by itself.
+    #[tactic(auto, unfolding(crate::specs::State::ticked, crate::specs::State::tick_answer))]
     pub fn tick(&mut self, t: u64) -> Result<Option<[u8; 35]>, Refusal>
-        ensures after { state_of self.new ≡ ticked (state_of self.old) t }
-        ensures told { result ≡ tick_bytes (tick_answer (state_of self.old) t) }
+        ensures { Ticks (state_of self.old) t (state_of self.new) result }
     {
         if t < self.clock {
             return Err(Refusal::ClockBack);
         }
-        let _worked = self.advance(t);
+        self.advance(t);
         if !self.is_due() {
             return Ok(None);
         }
         let interval = self.turn_alone();
-        if interval == 0 {
-            return Ok(None);
-        }
-        let key = held_key(&self.chain, interval);
-        let sent = wire::key::write(DisclosedKey {
-            interval,
-            key: &key.bytes,
-        });
-        Ok(Some(sent))
+        Ok(self.sent_alone(interval))
     }
 
-    // Writes the message that is next, and gives its length and the turn after it.
-    fn message(&self, text: &[u8], out: &mut [u8; 256]) -> (usize, Turn)
-        requires short_text { length text.now ≤ 200 }
-        requires allowed { may_not (state_of self.now) ≡ false }
-        ensures length { result.0 ≡ length (message_encoded (message_of (state_of self.now) text.now)) }
-        ensures memory { out.new ≡ over (message_encoded (message_of (state_of self.now) text.now)) out.old }
-        ensures turned { result.1 ≡ afterwards self.now.turn (newest (state_of self.now)) }
+    // The key of the clock's interval.
+    fn own_key(&self) -> Key
+        requires { may_not (state_of self.now) ≡ false }
+        ensures { result.bytes ≡ key_of (state_of self.now) (interval (state_of self.now)) }
     {
-        let i = self.current();
+        self.chain.key(self.current()).unwrap()
+    }
+
+    // Writes the message that is next, and gives its length; the index and the turn go on.
+    fn message(&mut self, text: &[u8], out: &mut [u8; 256]) -> usize
+        requires short_text { length text.now ≤ 200 }
+        requires allowed { may_not (state_of self.old) ≡ false }
+        ensures after { state_of self.new ≡ after_said (state_of self.old) }
+        ensures length { result ≡ length (message_encoded (message_of (state_of self.old) text.now)) }
+        ensures memory { out.new ≡ over (message_encoded (message_of (state_of self.old) text.now)) out.old }
+    {
         let (interval, turn) = self.turn.next(self.newest());
         let said = Said {
-            interval: i,
+            interval: self.current(),
             index: self.index,
             text,
         };
-        let tag = tag_of(held_key(&self.chain, i), said);
-        let key = shown_key(&self.chain, interval);
+        let tag = tag_of(self.own_key(), said);
         let disclosed = DisclosedKey {
             interval,
-            key: &key.bytes,
+            key: &shown_key(&self.chain, interval).bytes,
         };
-        match wire::message::write(said, &tag, disclosed, out) {
-            Ok(count) => (count, turn),
-            Err(_) => unreachable(),
-        }
+        self.index += 1;
+        self.turn = turn;
+        wire::message::write(said, &tag, disclosed, out).unwrap()
     }
 
     fn may_not(&self) -> bool
@@ -227,10 +209,10 @@ impl Sender {
     }
 
     // Says a text in the interval of the clock: the message at the front of the memory, and how many bytes it has.
+    // The memory is the caller's and fixed, since there is no heap.
+    #[tactic(auto, unfolding(crate::specs::State::said, crate::specs::State::say_answer))]
     pub fn say(&mut self, text: &[u8], out: &mut [u8; 256]) -> Result<usize, Refusal>
-        ensures after { state_of self.new ≡ said_after (state_of self.old) text.now }
-        ensures answer { result ≡ sent_length (say_answer (state_of self.old) text.now) }
-        ensures memory { out.new ≡ sent_over (say_answer (state_of self.old) text.now) out.old }
+        ensures { Says (state_of self.old) text.now (state_of self.new) result out.old out.new }
     {
         if text.len() > 200 {
             return Err(Refusal::Malformed);
@@ -238,9 +220,6 @@ impl Sender {
         if self.may_not() {
             return Err(Refusal::OutOfRange);
         }
-        let (count, next) = self.message(text, out);
-        self.index += 1;
-        self.turn = next;
-        Ok(count)
+        Ok(self.message(text, out))
     }
 }

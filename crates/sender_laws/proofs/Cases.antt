@@ -1,12 +1,12 @@
 -- What a call comes to, case by case, and what of the state lasts.
-use Rattle.std.proofs.Common.{◌≡◌, ℕ, ◌*◌, ◌<◌, ◌≤◌, true, false, cond, eqb, ltb, leb, List, length, sym, refl, ⊎_elim, arith}
+use Rattle.std.proofs.Common.{◌≡◌, ℕ, ◌<◌, ◌≤◌, true, false, eqb, leb, List, length, sym, refl, ⊎_elim, arith}
 use Rattle.std.proofs.lemmas.Bool.{cond_both, cases_lt, cases_Bool, cases_eq, eq-eqb, ne_eqb, cond-true, cond-false}
-use Rattle.std.proofs.lemmas.Bool.Decides.{nat_tests as ways}
 use Rattle.timing.specs.Time.{interval_at}
 use Rattle.timing.specs.declared.refusal.Refusal.TheVariants.{Malformed, OutOfRange}
 use Rattle.model.proofs.Intervals.{interval_mono}
 use Rattle.turns.specs.declared.Turn.{Turn}
-use Rattle.turns.specs.Turns.{disclosed, next_multiple}
+use Rattle.turns.specs.Turns.{disclosed}
+use Rattle.turns.proofs.Laws as turns-laws
 use Rattle.sender.specs.State.{State, interval, newest, advanced, due, alone, told_alone, shown_key, key_of, ticked, tick_answer, Ticked, back, nothing, told, said, say_answer, Spoken, refused, sent, may_not, after_said, message_of}
 use Rattle.sender.proofs.Ticks.{at_back, at_none, at_due, too_long, out_of_range, at_sent}
 use Rattle.sender_laws.specs.Run.{told_by_tick}
@@ -40,14 +40,10 @@ pub told_shown : (s : State) (j : ℕ) → told_by_tick (shown_key s j) ≡ j
 told_shown s j = shown_cases s j (λ a. told_by_tick a ≡ j) (λ e. sym e) (λ n. refl)
 
 pub disclosed_most : (t : Turn) (n : ℕ) → disclosed t n ≤ n
-disclosed_most t n =
-    cond_both (ltb n 1024) n (cond t.multiple (1024 * next_multiple t.thousands n) n) (λ x. x ≤ n) (λ e. omega arith)
-    (λ e. cond_both t.multiple (1024 * next_multiple t.thousands n) n (λ x. x ≤ n) (λ f. grind (arith, ways)) (λ f. omega arith))
+disclosed_most t n = turns-laws.disclosed_most t n
 
 disclosed_some : (t : Turn) (n : ℕ) → 0 < n → 0 < disclosed t n
-disclosed_some t n h =
-    cond_both (ltb n 1024) n (cond t.multiple (1024 * next_multiple t.thousands n) n) (λ x. 0 < x) (λ e. h)
-    (λ e. cond_both t.multiple (1024 * next_multiple t.thousands n) n (λ x. 0 < x) (λ f. grind (arith, ways)) (λ f. h))
+disclosed_some t n h = turns-laws.disclosed_some t n h
 
 pub alone_most : (s : State) → alone s ≤ newest s
 alone_most s = cond_both (leb (interval s) s.numbers.last) (disclosed s.turn (newest s)) (newest s) (λ x. x ≤ newest s) (λ e. disclosed_most s.turn (newest s)) (λ e. omega arith)

@@ -1,5 +1,5 @@
 -- What a sender sends is heard.
-use Rattle.std.proofs.Common.{◌≡◌, ℕ, zero, suc, ◌+◌, ◌-◌, ◌*◌, ◌^◌, ◌<◌, ◌≤◌, Bool, true, false, cond, not, ◌&&◌, eqb, ltb, leb, List, length, Some, sym, refl, ap, ◌∙◌, mul_comm, add-mul, mul-le-mul, arith}
+use Rattle.std.proofs.Common.{◌≡◌, ℕ, zero, suc, ◌+◌, ◌-◌, ◌*◌, ◌^◌, ◌<◌, ◌≤◌, Bool, true, false, cond, not, ◌&&◌, eqb, ltb, leb, List, length, Some, Ok, sym, refl, ap, ◌∙◌, mul_comm, add-mul, mul-le-mul, arith}
 use Rattle.std.proofs.lemmas.List.{length-take-le}
 use Rattle.std.proofs.lemmas.Bool.{cond_both, and_from, lt-ltb, le-leb}
 use Rattle.std.proofs.lemmas.Bool.Decides.{nat_tests as ways}
@@ -16,6 +16,8 @@ use Rattle.model.proofs.Intervals.{limits, in_time, not_early, not_opened}
 use Rattle.keychain.specs.Chain.{key_down, tagged, zeros}
 use Rattle.wire.specs.Fits.{KeyFits, PacketFits, SetupFits}
 use Rattle.wire.specs.Formats.{Key, key_encoded, message_encoded, message_event, key_event}
+use Rattle.wire.specs.Setup.{settings_encoded, settings_answer}
+use Rattle.wire.proofs.Setup.{settings_back}
 use Rattle.wire.proofs.Reading.{message_event_lem, key_event_lem}
 use Rattle.turns.specs.Turns.{disclosed}
 use Rattle.sender.specs.State.{State, interval, newest, key_of, advanced, alone, saying_of, key_shown, may_not, message_of, setup_for}
@@ -147,3 +149,7 @@ setup_fits p d start l a =
       last = omega (arith, p.few_intervals);
       commitment = key_long (p.last - 0) d l;
     }
+
+-- the settings that a sender gives out are read as they were
+pub settings_told : (p : Parameters) (d b : List ℕ) (start : ℕ) → length d ≡ 32 → start < 2 ^ 64 → b ≡ settings_encoded (setup_for (parameters_of p) d start) → settings_answer b ≡ Ok (setup_for (parameters_of p) d start)
+settings_told p d b start l a e = ap settings_answer e ∙ settings_back (setup_for (parameters_of p) d start) (setup_fits p d start l a) (limits_in_range p)

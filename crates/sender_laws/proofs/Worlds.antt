@@ -12,8 +12,8 @@ use Rattle.model.proofs.Intervals.{limits, interval_mono}
 use Rattle.keychain.proofs.Chains.{chain_terms}
 use Rattle.turns.specs.Turns.{disclosed}
 use Rattle.sender.specs.State.{State, interval, newest, advanced, alone, told_alone, shown_key, saying_of, may_not, after_said}
-use Rattle.sender_laws.specs.Run.{tick, say, Before}
-use Rattle.sender_laws.specs.Worlds.{Worlds, OnAir, key_out, tag_said, Stands, after_tick, after_spoken, Moves, Lawful, StandsFirst, Undisturbed, TickGenuine, SpokenGenuine, Genuine}
+use Rattle.sender_laws.specs.Run.{Event, tick, say, step, Before}
+use Rattle.sender_laws.specs.Worlds.{Worlds, OnAir, key_out, tag_said, Stands, after_tick, after_spoken, Moves, MovesWorlds, Lawful, StandsFirst, Undisturbed, TickGenuine, SpokenGenuine, Genuine}
 use Rattle.sender_laws.proofs.Cases.{tick_cases, say_cases, shown_cases, alone_most, disclosed_most, later, index_same}
 
 air_later : (p : Params) (t v : ℕ) (us : List Utterance) → 0 < p.ticks → t ≤ v → {x : Term} → OnAir p t us x → OnAir p v us x
@@ -191,3 +191,7 @@ genuine = record {
         ap (cond (eqb (disclosed s.turn (newest s)) 0) _) (sym (c.key_is (disclosed s.turn (newest s)))),
       ));
 }
+
+-- by what a call does to the state
+pub moves_at : (s u : State) (e : Event) → u ≡ step s e → MovesWorlds s e u
+moves_at s u e is = record { moves = λ p w st. rw is (lawful p s w e st) }

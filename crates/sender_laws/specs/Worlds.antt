@@ -49,6 +49,10 @@ pub record Moves (p : Params) (d : List ℕ) (u : State) (w v : Worlds p) : Type
   pub later : Later p (drawing d) (model.ours p hmac) w v
   pub stands : Stands p u v
 
+-- From each world that the state s stands for, an event moves to one that the state u stands for.
+pub record MovesWorlds (s : State) (e : Event) (u : State) : Type 0 where
+  pub moves : (p : Params) (w : Worlds p) → Stands p s w → Moves p s.drawn u w (after_event p s e w)
+
 -- Every call takes each world that the state stands for to one that the state after it stands for, by the model's steps.
 abbrev pub Lawful : Type 0
 Lawful = (p : Params) (s : State) (w : Worlds p) (e : Event) → Stands p s w → Moves p s.drawn (step s e) w (after_event p s e w)

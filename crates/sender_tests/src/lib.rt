@@ -6,18 +6,18 @@ mod walks;
 
 #[cfg(test)]
 mod tests {
-    use crate::walks::*;
+    use crate::walks::walk;
     use keychain::key::Key;
     use sender::state::Sender;
     use std::test::Fail;
-    use timing::parameters::Parameters;
-    use timing::refusal::Refusal;
+    use timing::parameters::{Numbers, Parameters};
+    use timing::refusal::number_of;
     use turns::Turn;
 
     // Every key and tag that is sent, and every key that is held, is the whole chain's: last interval, delay, and intervals from tick to tick.
     #[test]
     fn walked_to_the_end(rt: HostRuntime) -> Result<(), Fail> {
-        let table: [(u16, u8, u16); 14] = [
+        let table: [(u16, u8, u32); 14] = [
             (1, 1, 1),
             (1, 8, 1),
             (127, 1, 1),
@@ -33,10 +33,9 @@ mod tests {
             (16384, 8, 1000),
             (16384, 4, 16383),
         ];
-        for row in table {
-            let walk = walk(rt.alloc(), row.0, row.1, row.2)?;
-            assert!(rt; walk.right);
-            assert!(rt; walk.last_told || row.2 > 1);
+        for (last, delay, stride) in table {
+            let last_told = walk(rt.alloc(), last, delay, stride)?;
+            assert!(rt; last_told || stride > 1);
         }
         Ok(())
     }
@@ -70,47 +69,35 @@ mod tests {
     #[test]
     fn refused(rt: HostRuntime) -> Result<(), Fail> {
         let drawn = Key { bytes: [7; 32] };
-        assert!(rt; Sender::from_numbers(0, 1, 0, 1, 0, drawn).is_err());
-        assert!(rt; Sender::from_numbers(10, 9, 0, 1, 0, drawn).is_err());
-        assert!(rt; Sender::from_numbers(10, 1, 5, 1, 0, drawn).is_err());
-        assert!(rt; Sender::from_numbers(10, 1, 0, 16385, 0, drawn).is_err());
-        let (mut sender, _) = Sender::new(parameters(2, 1)?, 0, drawn);
+        assert!(rt; Sender::from_numbers(numbers(0, 1, 0, 1), 0, drawn).is_err());
+        assert!(rt; Sender::from_numbers(numbers(10, 9, 0, 1), 0, drawn).is_err());
+        assert!(rt; Sender::from_numbers(numbers(10, 1, 5, 1), 0, drawn).is_err());
+        assert!(rt; Sender::from_numbers(numbers(10, 1, 0, 16385), 0, drawn).is_err());
+        let (mut sender, _) = Sender::new(Parameters::new(10, 1, 0, 2)?, 0, drawn);
         let mut out = [0u8; 256];
-        assert!(rt; said(&mut sender, &[1; 201], &mut out) == 1);
+        assert!(rt; number_of(&sender.say(&[1; 201], &mut out)) == 1);
         for i in 0u8..64 {
-            assert!(rt; said(&mut sender, &[i], &mut out) == 0);
+            assert!(rt; number_of(&sender.say(&[i], &mut out)) == 0);
             assert!(rt; out[3] == i);
         }
-        assert!(rt; said(&mut sender, &[64], &mut out) == 2);
+        assert!(rt; number_of(&sender.say(&[64], &mut out)) == 2);
         assert!(rt; out[3] == 63);
-        assert!(rt; ticked(&mut sender, 10) == 0);
-        assert!(rt; ticked(&mut sender, 9) == 10);
-        assert!(rt; said(&mut sender, &[1; 200], &mut out) == 0);
+        assert!(rt; number_of(&sender.tick(10)) == 0);
+        assert!(rt; number_of(&sender.tick(9)) == 10);
+        assert!(rt; number_of(&sender.say(&[1; 200], &mut out)) == 0);
         assert!(rt; out[2] == 2);
         assert!(rt; out[3] == 0);
-        assert!(rt; ticked(&mut sender, 20) == 0);
-        assert!(rt; said(&mut sender, &[], &mut out) == 2);
+        assert!(rt; number_of(&sender.tick(20)) == 0);
+        assert!(rt; number_of(&sender.say(&[], &mut out)) == 2);
         Ok(())
     }
 
-    fn parameters(last: u16, delay: u8) -> Result<Parameters, Fail> {
-        match Parameters::new(10, delay, 0, last) {
-            Ok(p) => Ok(p),
-            Err(e) => Err(Fail::new(e.number())),
-        }
-    }
-
-    fn said(sender: &mut Sender, text: &[u8], out: &mut [u8; 256]) -> u8 {
-        match sender.say(text, out) {
-            Ok(_) => 0,
-            Err(e) => e.number(),
-        }
-    }
-
-    fn ticked(sender: &mut Sender, t: u64) -> u8 {
-        match sender.tick(t) {
-            Ok(_) => 0,
-            Err(e) => e.number(),
+    fn numbers(ticks: u64, delay: u64, error: u64, last: u64) -> Numbers {
+        Numbers {
+            ticks,
+            delay,
+            error,
+            last,
         }
     }
 }

@@ -1,160 +1,158 @@
 // A sender beside a key chain kept whole.
+ghost use Rattle.std.specs.Prelude.{◌≤◌};
+
 use keychain::key::Key;
-use keychain::same_bytes;
 use sender::state::Sender;
 use std::alloc::{AllocError, Global};
+use std::iter;
 use timing::parameters::Parameters;
+use timing::refusal::Refusal;
 use wire::air;
 use wire::air::Air;
+use wire::key::DisclosedKey;
 
-// At place j the key j intervals before the last.
+// What goes wrong on a walk, and in which interval.
+#[derive(Clone, Copy, PartialEq, Eq, Debug, Drop)]
+pub enum Wrong {
+    Memory,
+    Refused(Refusal),
+    FirstKey,
+    Tick(u32),
+    Message(u32),
+}
+
+impl From<AllocError> for Wrong {
+    fn from(_: AllocError) -> Wrong {
+        Wrong::Memory
+    }
+}
+
+impl From<Refusal> for Wrong {
+    fn from(e: Refusal) -> Wrong {
+        Wrong::Refused(e)
+    }
+}
+
+// The settings of a chain, and its keys: at place j the key j intervals before the last.
 #[derive(Drop)]
-pub struct Whole {
+struct Whole {
+    parameters: Parameters,
     keys: Vec<Key>,
 }
 
 impl Whole {
-    pub fn new(heap: Global, last: u16, drawn: Key) -> Result<Whole, AllocError> {
-        let mut keys = Vec::new(heap);
-        let mut key = drawn;
-        for _i in 0..last as u32 + 1 {
-            keys.push(key)?;
-            key = key.previous();
-        }
-        Ok(Whole { keys })
+    fn new(heap: Global, parameters: Parameters, drawn: Key) -> Result<Whole, AllocError> {
+        let keys = iter::successors(Some(drawn), |key| Some(key.previous()))
+            .take(usize::from(parameters.last) + 1)
+            .collect(heap)?;
+        Ok(Whole { parameters, keys })
     }
 
-    // Whether a key is that of an interval.
-    pub fn has(&self, last: u16, interval: u16, bytes: &[u8]) -> bool {
-        if interval > last {
+    // The key of an interval.
+    fn key(&self, interval: u16) -> Option<&Key> {
+        let place = self.parameters.last.checked_sub(interval)?;
+        self.keys.get(usize::from(place))
+    }
+
+    fn has(&self, interval: u16, bytes: &[u8]) -> bool {
+        self.key(interval)
+            .is_some_and(|key| key.bytes.as_slice() == bytes)
+    }
+
+    // The last interval of the chain.
+    fn last(&self) -> u32
+        ensures { result ≤ 16384 }
+    {
+        u32::from(self.parameters.last)
+    }
+
+    // How long a key waits: its interval, and as many as the delay.
+    fn wait(&self) -> u32
+        ensures { result ≤ 9 }
+    {
+        u32::from(self.parameters.delay) + 1
+    }
+
+    // The newest interval whose key may be disclosed in an interval, 0 for none.
+    fn newest(&self, interval: u32) -> u32 {
+        interval.saturating_sub(self.wait()).min(self.last())
+    }
+
+    // Whether a key may be disclosed in an interval: it is the newest or a multiple of 1,024, and the whole chain's.
+    fn may_tell(&self, interval: u32, told: DisclosedKey<'_>) -> bool {
+        let newest = self.newest(interval);
+        let key = told.key;
+        match u32::from(told.interval) {
+            0 => newest == 0,
+            i => (i == newest || i < newest && i % 1024 == 0) && self.has(told.interval, key),
+        }
+    }
+
+    // The interval of a key that was sent by itself, where that is right.
+    fn told_alone(&self, interval: u32, sent: &[u8; 35]) -> Option<u16> {
+        let Ok(Air::Key(key)) = air::read(sent) else {
+            return None;
+        };
+        self.may_tell(interval, key).then_some(key.interval)
+    }
+
+    // Whether a message is right.
+    fn may_say(&self, interval: u32, sent: &[u8]) -> bool {
+        let Ok(Air::Message(m)) = air::read(sent) else {
             return false;
-        }
-        match self.keys.get((last - interval) as usize) {
-            Some(key) => same_bytes(&key.bytes, bytes),
-            None => false,
-        }
+        };
+        u32::from(m.said.interval) == interval
+            && self
+                .key(m.said.interval)
+                .is_some_and(|key| key.authenticates(m.under_tag, m.tag))
+            && self.may_tell(interval, m.disclosed)
     }
 
-    pub fn authenticates(&self, last: u16, interval: u16, text: &[u8], tag: &[u8]) -> bool {
-        if interval > last {
-            return false;
-        }
-        match self.keys.get((last - interval) as usize) {
-            Some(key) => key.authenticates(text, tag),
-            None => false,
-        }
-    }
-}
-
-// What became of a walk: whether all was right, and whether the last key was told at the end.
-#[derive(Clone, Copy, Drop)]
-pub struct Walked {
-    pub right: bool,
-    pub last_told: bool,
-}
-
-// The newest interval whose key may be disclosed in an interval, 0 for none.
-fn newest(last: u16, delay: u8, interval: u32) -> u32 {
-    let wait = delay as u32 + 1;
-    if interval <= wait {
-        0
-    } else if interval - wait < last as u32 {
-        interval - wait
-    } else {
-        last as u32
-    }
-}
-
-// A key that is disclosed in an interval: the newest or a multiple of 1,024, and the whole chain's.
-fn right_key(whole: &Whole, last: u16, delay: u8, interval: u32, told: u16, bytes: &[u8]) -> bool {
-    let newest = newest(last, delay, interval);
-    if told as u32 > newest {
-        return false;
-    }
-    if told as u32 != newest && (told % 1024 != 0 || told == 0) {
-        return false;
-    }
-    told == 0 || whole.has(last, told, bytes)
-}
-
-fn right_alone(whole: &Whole, last: u16, delay: u8, interval: u32, sent: &[u8; 35]) -> (bool, u16) {
-    let Ok(Air::Key(key)) = air::read(sent) else {
-        return (false, 0);
-    };
-    let bytes = key.key;
-    let right = right_key(whole, last, delay, interval, key.interval, bytes);
-    (right, key.interval)
-}
-
-fn right_message(whole: &Whole, last: u16, delay: u8, interval: u32, sent: &[u8]) -> bool {
-    let Ok(Air::Message(m)) = air::read(sent) else {
-        return false;
-    };
-    let text = m.under_tag;
-    let tag = m.tag;
-    let key = m.disclosed.key;
-    if m.said.interval as u32 != interval {
-        return false;
-    }
-    if !whole.authenticates(last, m.said.interval, text, tag) {
-        return false;
-    }
-    right_key(whole, last, delay, interval, m.disclosed.interval, key)
-}
-
-// Says something, where that may be; whether it came out right.
-fn say_there(sender: &mut Sender, whole: &Whole, last: u16, delay: u8, interval: u32) -> bool {
-    let mut out = [0u8; 256];
-    match sender.say(b"all is well", &mut out) {
-        Ok(count) => {
-            if count > 256 || interval > last as u32 {
-                return false;
+    // Whether what a sender says is right, or refused past the last interval.
+    fn says_right(&self, interval: u32, sender: &mut Sender) -> bool {
+        let mut out = [0; 256];
+        match sender.say(b"all is well", &mut out) {
+            Ok(count) => {
+                interval <= self.last()
+                    && out
+                        .get(..count)
+                        .is_some_and(|sent| self.may_say(interval, sent))
             }
-            right_message(whole, last, delay, interval, &out[0..count])
+            Err(_) => interval > self.last(),
         }
-        Err(_) => interval > last as u32,
     }
 }
 
-// Goes through a chain by ticks so many intervals apart, to two intervals past its end.
-pub fn walk(heap: Global, last: u16, delay: u8, stride: u16) -> Result<Walked, AllocError> {
-    let wrong = Walked {
-        right: false,
-        last_told: false,
-    };
-    let Ok(p) = Parameters::new(10, delay, 0, last) else {
-        return Ok(wrong);
-    };
+// Goes through a chain by ticks so many intervals apart, to two intervals past its end: whether the last key was told at the end.
+pub fn walk(heap: Global, last: u16, delay: u8, stride: u32) -> Result<bool, Wrong> {
+    let parameters = Parameters::new(10, delay, 0, last)?;
     let drawn = Key { bytes: [delay; 32] };
-    let whole = Whole::new(heap, last, drawn)?;
-    let (mut sender, settings) = Sender::new(p, 0, drawn);
-    let mut right = whole.has(last, 0, &settings[15..47]);
+    let whole = Whole::new(heap, parameters, drawn)?;
+    let (mut sender, settings) = Sender::new(parameters, 0, drawn);
+    if !whole.has(0, &settings[15..]) {
+        return Err(Wrong::FirstKey);
+    }
+    let end = whole.last() + whole.wait();
     let mut last_told = false;
-    for k in 0..20000u16 {
-        let interval = 1 + k as u32 * stride as u32;
-        if interval > last as u32 + delay as u32 + 3 {
-            break;
+    for interval in 1..=end + 2 {
+        if !(interval - 1).is_multiple_of(stride) {
+            continue;
         }
-        match sender.tick(10 * (interval as u64 - 1)) {
-            Ok(None) => {
-                if interval > delay as u32 + 1 && interval <= last as u32 + delay as u32 + 1 {
-                    right = false;
-                }
+        let due = whole.wait() < interval && interval <= end;
+        match sender.tick(10 * (u64::from(interval) - 1))? {
+            None if due => return Err(Wrong::Tick(interval)),
+            None => {}
+            Some(sent) => {
+                let told = whole.told_alone(interval, &sent);
+                let told = told
+                    .filter(|_| interval <= end)
+                    .ok_or(Wrong::Tick(interval))?;
+                last_told |= told == last && interval == end;
             }
-            Ok(Some(sent)) => {
-                let (good, told) = right_alone(&whole, last, delay, interval, &sent);
-                if !good || interval > last as u32 + delay as u32 + 1 {
-                    right = false;
-                }
-                if told == last && interval == last as u32 + delay as u32 + 1 {
-                    last_told = true;
-                }
-            }
-            Err(_) => right = false,
         }
-        if !say_there(&mut sender, &whole, last, delay, interval) {
-            right = false;
+        if !whole.says_right(interval, &mut sender) {
+            return Err(Wrong::Message(interval));
         }
     }
-    Ok(Walked { right, last_told })
+    Ok(last_told)
 }

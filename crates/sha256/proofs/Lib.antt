@@ -1,4 +1,5 @@
 pub mod Bitwise
+pub mod Arrays
 pub mod Steps
 pub mod Windows
 pub mod Buffers

@@ -1,7 +1,10 @@
 // How much happened.
-use hearings::event::{Deed, Event, Hearing};
+ghost use Rattle.std.specs.Prelude.{◌≡◌};
+ghost use Rattle.simulation.specs.Tallies.{both, of_hearing, of_deed, of_events};
 
-#[derive(Clone, Copy, Drop)]
+use hearings::event::{Deed, Delivery, Event, Hearing};
+
+#[derive(Clone, Copy, Default, Drop)]
 pub struct Counts {
     // records on the air
     pub sent: u64,
@@ -16,43 +19,65 @@ pub struct Counts {
 }
 
 impl Counts {
-    fn hear(&mut self, hearing: &Hearing) {
-        self.brought = self.brought.saturating_add(1);
-        if hearing.outcome.number() != 0 {
-            self.refused = self.refused.saturating_add(1);
-        }
-        for delivery in hearing.deliveries.iter() {
-            self.delivered = self.delivered.saturating_add(1);
-            if delivery.said {
-                self.said = self.said.saturating_add(1);
-            }
-        }
-    }
-
-    fn add(&mut self, event: &Event) {
-        match &event.deed {
-            Deed::Sent { .. } => self.sent = self.sent.saturating_add(1),
-            Deed::NotSaid(_) => self.not_said = self.not_said.saturating_add(1),
-            Deed::Brought { hearings, .. } => {
-                for hearing in hearings.iter() {
-                    self.hear(hearing);
-                }
-            }
+    // The sums, or the most of 64 bits.
+    #[tactic(auto, unfolding(crate::specs::Tallies::both))]
+    fn and(self, other: Counts) -> Counts
+        ensures { result ≡ both self other }
+    {
+        Counts {
+            sent: self.sent.saturating_add(other.sent),
+            not_said: self.not_said.saturating_add(other.not_said),
+            brought: self.brought.saturating_add(other.brought),
+            refused: self.refused.saturating_add(other.refused),
+            delivered: self.delivered.saturating_add(other.delivered),
+            said: self.said.saturating_add(other.said),
         }
     }
 
-    pub fn of(events: &[Event]) -> Counts {
-        let mut counts = Counts {
-            sent: 0,
-            not_said: 0,
-            brought: 0,
-            refused: 0,
-            delivered: 0,
-            said: 0,
-        };
-        for event in events {
-            counts.add(event);
+    #[tactic(auto, unfolding(crate::specs::Tallies::of_hearing, crate::specs::Tallies::none))]
+    fn of_hearing(hearing: &Hearing) -> Counts
+        ensures { result ≡ of_hearing hearing.now }
+    {
+        let deliveries = hearing.deliveries.as_slice();
+        Counts {
+            brought: 1,
+            refused: u64::from(hearing.outcome.is_err()),
+            delivered: deliveries.len() as u64,
+            said: deliveries
+                .iter()
+                .filter(|d| matches!(d, Delivery::Said(_)))
+                .count() as u64,
+            ..Counts::default()
         }
-        counts
+    }
+
+    #[tactic(auto, unfolding(crate::specs::Tallies::none))]
+    fn of_deed(deed: &Deed) -> Counts
+        ensures { result ≡ of_deed deed.now }
+    {
+        match deed {
+            Deed::Sent { .. } => Counts {
+                sent: 1,
+                ..Counts::default()
+            },
+            Deed::NotSaid(_) => Counts {
+                not_said: 1,
+                ..Counts::default()
+            },
+            Deed::Brought { hearings, .. } => hearings.iter().fold(
+                Counts::default(),
+                |all, hearing| all.and(Counts::of_hearing(hearing)),
+            ),
+        }
+    }
+
+    #[tactic(auto, unfolding(crate::specs::Tallies::none))]
+    pub fn of(events: &[Event]) -> Counts
+        ensures { result ≡ of_events events.now }
+    {
+        events.iter().fold(
+            Counts::default(),
+            |all, event| all.and(Counts::of_deed(&event.deed)),
+        )
     }
 }

@@ -1,9 +1,10 @@
 // A sender's script: the settings, the drawn key, and what the sender is given, in order.
 use orders::command::Command;
 use orders::line::parse;
-use scenario::error::{Error, Fault};
+use script::error::Error;
+use script::reader;
+use script::reader::Follow;
 use script::stop::Stop;
-use script::text;
 use std::alloc::Global;
 use timing::parameters::Parameters;
 use timing::refusal::Refusal;
@@ -15,140 +16,86 @@ pub enum Deed {
     Say(Vec<u8>),
 }
 
-// A script as far as it was read.
+// A script read whole.
 #[derive(Drop)]
 pub struct Script {
-    pub parameters: Option<Parameters>,
-    pub drawn: Option<[u8; 32]>,
+    pub parameters: Parameters,
+    pub drawn: [u8; 32],
     pub deeds: Vec<Deed>,
-    time: u64,
-    ended: bool,
 }
 
-fn malformed() -> Stop {
-    Stop::Fault(Refusal::Malformed)
+// A script as far as it was read.
+#[derive(Drop)]
+enum Stage {
+    // nothing was read
+    Start,
+    Settled(Parameters),
+    // the drawn key, what the sender is given, and the time by then
+    Drawn(Script, u64),
+    // `end` was read
+    Ended(Script),
+    // `end` was read too early, which is told at the next command or at the last line
+    Cut,
 }
 
-impl Script {
-    fn new(heap: Global) -> Script {
-        Script {
-            parameters: None,
-            drawn: None,
-            deeds: Vec::new(heap),
-            time: 0,
-            ended: false,
-        }
-    }
-
-    // Settings come first, and once.
-    fn settle(&mut self, ticks: u64, delay: u64, error: u64, last: u64) -> Result<(), Stop> {
-        if self.parameters.is_some() {
-            return Err(malformed());
-        }
-        let (Ok(ticks), Ok(delay), Ok(error), Ok(last)) = (
-            u16::try_from(ticks),
-            u8::try_from(delay),
-            u16::try_from(error),
-            u16::try_from(last),
-        ) else {
-            return Err(Stop::Fault(Refusal::BadSettings));
-        };
-        match Parameters::new(ticks, delay, error, last) {
-            Ok(p) => {
-                self.parameters = Some(p);
-                Ok(())
+impl Stage {
+    // The stage after a command, which has to be in its place.
+    fn obey(self, heap: Global, command: Command) -> Result<Stage, Stop> {
+        match (self, command) {
+            (Stage::Start, Command::Settings(numbers)) => {
+                Ok(Stage::Settled(Parameters::try_from(numbers)?))
             }
-            Err(e) => Err(Stop::Fault(e)),
-        }
-    }
-
-    // The drawn key comes before what the sender is given, and once.
-    fn draw(&mut self, key: &[u8]) -> Result<(), Stop> {
-        let Ok(key) = <[u8; 32]>::try_from(key) else {
-            return Err(malformed());
-        };
-        if self.parameters.is_none() || self.drawn.is_some() {
-            return Err(malformed());
-        }
-        self.drawn = Some(key);
-        Ok(())
-    }
-
-    fn pass(&mut self, time: u64) -> Result<(), Stop> {
-        if self.drawn.is_none() {
-            return Err(malformed());
-        }
-        if time < self.time {
-            return Err(Stop::Fault(Refusal::ClockBack));
-        }
-        self.time = time;
-        self.deeds.push(Deed::Time(time))?;
-        Ok(())
-    }
-
-    fn say(&mut self, text: Vec<u8>) -> Result<(), Stop> {
-        if self.drawn.is_none() || text.len() > 200 {
-            return Err(malformed());
-        }
-        self.deeds.push(Deed::Say(text))?;
-        Ok(())
-    }
-
-    fn obey(&mut self, command: Command) -> Result<(), Stop> {
-        if self.ended {
-            return Err(malformed());
-        }
-        match command {
-            Command::Settings {
-                ticks,
-                delay,
-                error,
-                last,
-            } => self.settle(ticks, delay, error, last),
-            Command::Drawn(key) => self.draw(key.as_slice()),
-            Command::Time(t) => self.pass(t),
-            Command::Say(text) => self.say(text),
-            Command::End => {
-                self.ended = true;
-                Ok(())
+            (Stage::Settled(parameters), Command::Drawn(key)) => {
+                let drawn = <[u8; 32]>::try_from(key.as_slice()).map_err(|_| Refusal::Malformed)?;
+                let deeds = Vec::new(heap);
+                let script = Script {
+                    parameters,
+                    drawn,
+                    deeds,
+                };
+                Ok(Stage::Drawn(script, 0))
             }
-            _ => Err(malformed()),
+            (Stage::Drawn(mut script, time), Command::Time(tick)) => {
+                if tick < time {
+                    return Err(Stop::Fault(Refusal::ClockBack));
+                }
+                script.deeds.push(Deed::Time(tick))?;
+                Ok(Stage::Drawn(script, tick))
+            }
+            (Stage::Drawn(mut script, time), Command::Say(text)) => {
+                script.deeds.push(Deed::Say(text))?;
+                Ok(Stage::Drawn(script, time))
+            }
+            (Stage::Drawn(script, _), Command::End) => Ok(Stage::Ended(script)),
+            (Stage::Start | Stage::Settled(_), Command::End) => Ok(Stage::Cut),
+            _ => Err(Stop::Fault(Refusal::Malformed)),
         }
     }
+}
 
-    fn follow(&mut self, heap: Global, text: &[u8]) -> Result<(), Stop> {
+impl Follow for Stage {
+    type Read = Script;
+
+    ghost steps = { λ _ _ _ _. Unit {0} };
+
+    ghost ends = { λ _ _. Unit {0} };
+
+    fn follow(self, heap: Global, _line: u64, text: &[u8]) -> Result<Stage, Stop> {
         match parse(heap, text)? {
-            Some(command) => self.obey(command),
-            None => Ok(()),
+            Some(command) => self.obey(heap, command),
+            None => Ok(self),
         }
     }
 
-    fn step(&mut self, heap: Global, line: u64, text: &[u8]) -> Result<(), Error> {
-        match self.follow(heap, text) {
-            Ok(()) => Ok(()),
-            Err(Stop::Fault(refusal)) => Err(Error::Faulty(Fault { line, refusal })),
-            Err(Stop::NoMemory) => Err(Error::NoMemory),
+    fn finish(self) -> Result<Script, Stop> {
+        match self {
+            Stage::Ended(script) => Ok(script),
+            _ => Err(Stop::Fault(Refusal::Malformed)),
         }
     }
 }
 
 // A script read whole, or its first fault.
 pub fn read(heap: Global, bytes: &[u8]) -> Result<Script, Error> {
-    let mut script = Script::new(heap);
-    let mut rest = bytes;
-    let mut line = 0u64;
-    while let Some((text, after)) = text::cut(rest, b'\n') {
-        line = line.saturating_add(1);
-        script.step(heap, line, text)?;
-        rest = after;
-    }
-    line = line.saturating_add(1);
-    script.step(heap, line, rest)?;
-    if !script.ended || script.drawn.is_none() {
-        return Err(Error::Faulty(Fault {
-            line,
-            refusal: Refusal::Malformed,
-        }));
-    }
-    Ok(script)
+    reader::read(heap, Stage::Start, bytes)
 }

@@ -7,7 +7,7 @@ use anyhow::anyhow;
 use deeds::{Deed, Script};
 use frames::head;
 use frames::head::{Head, Source};
-use scenario::error::Error;
+use script::error::{Error, Fault};
 use sender::state::Sender;
 use sender_laws::calls;
 use std::io::{Read, Write};
@@ -28,7 +28,7 @@ fn put_on_air(rt: &HostRuntime, bytes: &[u8]) -> io::Result<()> {
 }
 
 fn refused(rt: &HostRuntime, n: u64, e: Refusal) -> io::Result<()> {
-    let number = e.number();
+    let number = u8::from(e);
     eprintln!(rt; "deed {n}: refused {number}")
 }
 
@@ -43,28 +43,18 @@ fn pass(rt: &HostRuntime, sender: &mut Sender, n: u64, time: u64) -> io::Result<
 fn say(rt: &HostRuntime, sender: &mut Sender, n: u64, text: &[u8]) -> io::Result<()> {
     let mut message = [0u8; 256];
     match calls::say(sender, text, &mut message) {
-        Ok(count) => {
-            if count <= 256 {
-                put_on_air(rt, &message[0..count])?;
-            }
-            Ok(())
-        }
+        Ok(count) => match message.get(..count) {
+            Some(bytes) => put_on_air(rt, bytes),
+            None => Ok(()),
+        },
         Err(e) => refused(rt, n, e),
     }
 }
 
 fn play(rt: &HostRuntime, script: Script, date: u64) -> anyhow::Result<()> {
-    let Some(parameters) = script.parameters else {
-        return Err(anyhow!("\"no settings\""));
-    };
-    let Some(drawn) = script.drawn else {
-        return Err(anyhow!("\"no drawn key\""));
-    };
-    let (mut sender, settings) = calls::begin(parameters, date, drawn);
+    let (mut sender, settings) = calls::begin(script.parameters, date, script.drawn);
     rt.stdout().write_all(&settings)?;
-    let mut n = 0u64;
-    for deed in script.deeds.iter() {
-        n = n.saturating_add(1);
+    for (deed, n) in script.deeds.iter().zip(1u64..) {
         match deed {
             Deed::Time(t) => pass(rt, &mut sender, n, *t)?,
             Deed::Say(text) => say(rt, &mut sender, n, text.as_slice())?,
@@ -75,7 +65,7 @@ fn play(rt: &HostRuntime, script: Script, date: u64) -> anyhow::Result<()> {
 
 // The date of the first tick, if it is given.
 fn date_of(rt: &HostRuntime) -> anyhow::Result<u64> {
-    match env::args(rt)?.skip(1).next() {
+    match env::args(rt)?.nth(1) {
         Some(word) => Ok(word.as_str().parse::<u64>()?),
         None => Ok(0),
     }
@@ -87,9 +77,8 @@ fn run(rt: &HostRuntime) -> anyhow::Result<()> {
     let _ = rt.stdin().read_to_end(&mut bytes)?;
     match deeds::read(rt.alloc(), bytes.as_slice()) {
         Ok(script) => play(rt, script, date),
-        Err(Error::Faulty(f)) => {
-            let line = f.line;
-            let number = f.refusal.number();
+        Err(Error::Faulty(Fault { line, refusal })) => {
+            let number = u8::from(refusal);
             eprintln!(rt; "line {line}: refused {number}")?;
             Err(anyhow!("\"the script was not played\""))
         }

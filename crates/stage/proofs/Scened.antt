@@ -1,242 +1,160 @@
--- What a scene is after something was pushed.
-use Rattle.std.proofs.Common.{◌≡◌, ℕ, zero, suc, ◌+◌, ◌-◌, ◌<◌, ◌≤◌, true, false, ltb, List, [], ◌∷◌, ◌++◌, map, length, get_or, take, drop, set, IfOk, Some, None, Ok, Err, vec_items, vec_len, Option, Result, Vec, sym, refl, ap, ◌∙◌, subst, arith, length-append}
-use native.Mathlib.Nat.{sub-zero}
+-- What a scene is after something was done on it.
+use Rattle.std.proofs.Common.{◌≡◌, ℕ, ◌+◌, ◌<◌, ◌≤◌, true, false, List, [], ◌∷◌, ◌++◌, length, get_or, set, take, is_some, Some, None, Ok, Err, vec_items, vec_len, Option, Result, Vec, refl, sym, subst, ap, ◌∙◌, arith}
 use lib.ListN.{length-map}
-use Rattle.std.proofs.lemmas.Bool.{cond-true, cond-false, lt-ltb, le-ltb}
-use Rattle.timing.specs.declared.refusal.Refusal.{Refusal}
-use Rattle.wire.specs.Formats.{air_event, key_encoded, message_encoded, tick_encoded}
-use Rattle.sender.specs.State.{State, ticked, tick_answer, tick_bytes, Ticked, back, nothing, told, said, say_answer, Spoken, refused, sent, sent_length, sent_over}
-use Rattle.stage.specs.declared.event.Deed.TheVariants.{Passed, Disclosed, Said as SaidOne, NotSaid, Told, Heard, Delivered, Judged}
-use Rattle.stage.specs.declared.event.Deed.{Deed}
 use Rattle.std.specs.declared.alloc.Global.{Global}
+use Rattle.std.specs.Option.{option_map}
+use Rattle.std.specs.List.{slice_get}
+use Rattle.std.proofs.lemmas.Option.{slice_get-map, slice_get_read, slice_get_past}
+use Rattle.std.proofs.lemmas.List.{map-append, map-set, take_more}
+use Rattle.std.proofs.lemmas.List.Sums.{fold-append}
 use Rattle.model.specs.Receiver.{Said, Message}
 use Rattle.buffer.specs.Buffers.{as_said, as_message, messages_in, saids_in}
 use Rattle.buffer.specs.declared.message.Buffered.{Buffered}
-use Rattle.stage.specs.Scenes.{bytes_of, Site, site_of, sites_of, no_site, site_after, with_sites, moved, clock_told, Scene, scene, noted, noticed, recorded, on_air, with_sender, at_time, tick_noted, time_passed, said_noted, say_noted, spoken, unsaid_too, delivered_one, delivered_all, named, site_at, hearing_of, heard_by, judgement_of, judged_by}
-use Rattle.timing.specs.Judged.{judged}
-use Rattle.timing.specs.declared.safety.Judgement.{Judgement}
-use Rattle.stage.specs.Saids.{which_said, which_message}
-use Rattle.timing.specs.Time.{parameters_of}
-use Rattle.receiver.specs.Calls.{Input, own_clock, from_air, state_after, outcome_of, delivered_of}
+use Rattle.receiver.specs.Calls.{Input, own_clock, from_air, state_after, delivered_of}
 use Rattle.receiver.specs.State.{meant, params_of, state_of}
-use Rattle.receiver.specs.declared.outcome.Outcome.{Outcome}
-use Rattle.receiver.specs.declared.outcome.Outcome.TheVariants as outcome
-use Rattle.std.proofs.lemmas.List.{take_more, get_or_default}
+use Rattle.receiver.specs.declared.outcome.Accepted.{Accepted}
+use Rattle.receiver.specs.declared.outcome.Accepted.TheVariants as accepted
 use Rattle.receiver.specs.declared.state.Receiver.{Receiver}
-use Rattle.stage.proofs.Places.{get_d_map}
+use Rattle.timing.specs.declared.refusal.Refusal.{Refusal}
+use Rattle.wire.specs.Bytes.{over}
+use Rattle.wire.specs.Formats.{key_encoded, message_encoded, tick_encoded}
+use Rattle.sender.specs.State.{State, ticked, tick_answer, tick_bytes, Ticked, back, nothing, told, said, say_answer, Spoken, refused, sent, sent_length, sent_over}
+use Rattle.std.proofs.lemmas.Grind.{common_steps}
+use Rattle.stage.specs.declared.event.Deed.TheVariants.{Passed, Disclosed, Said as SaidOne, NotSaid, Told, Delivered, Judged}
+use Rattle.stage.specs.declared.event.Deed.{Deed}
+use Rattle.timing.specs.Judged.{judged}
+use Rattle.stage.specs.Saids.{which_said}
+use Rattle.stage.specs.Scenes.{Site, Scene, bytes_of, named, site_of, sites_of, site_after, of_site, noted, on_air, tick_noted, time_passed, said_noted, say_noted, spoken, unsaid_too, delivered_one, delivered_all, clock_told, heard_by, hearing_of, judged_by}
 
-pub map_more : {A B : Type 0} (f : A → B) (xs : List A) (y : A) → map f (xs ++ y ∷ []) ≡ map f xs ++ f y ∷ []
-map_more f [] y = refl
-map_more f (x ∷ xs) y = ap (λ r. f x ∷ r) (map_more f xs y)
-
-pub messages_more : (new old : List Buffered) (k : Buffered) (m : Message) → new ≡ old ++ k ∷ [] → as_message k ≡ m → messages_in new ≡ messages_in old ++ m ∷ []
+-- a message more
+pub messages_more : (ms : List Buffered) (m : Buffered) → messages_in (ms ++ m ∷ []) ≡ messages_in ms ++ as_message m ∷ []
 unfolding messages_in
-messages_more new old k m e f = ap messages_in e ∙ map_more as_message old k ∙ ap (λ x. messages_in old ++ x ∷ []) f
+messages_more ms m = map-append as_message ms (m ∷ [])
 
-pub bytes_more : (new old : List (Vec ℕ Global)) (v : Vec ℕ Global) (b : List ℕ) → new ≡ old ++ v ∷ [] → vec_items v ≡ b → bytes_of new ≡ bytes_of old ++ b ∷ []
-unfolding bytes_of
-bytes_more new old v b e f = ap bytes_of e ∙ map_more vec_items old v ∙ ap (λ x. bytes_of old ++ x ∷ []) f
-
-length_bytes : (rs : List (Vec ℕ Global)) → length (bytes_of rs) ≡ length rs
-unfolding bytes_of
-length_bytes rs = length-map rs vec_items
-
-pub sent_on_air : (b : List ℕ) (s t u : Scene) → u ≡ noticed (air_event b) t → t ≡ recorded b s → u ≡ on_air b s
-unfolding on_air
-sent_on_air b s t u f e = f ∙ ap (noticed (air_event b)) e
-
--- the sender was given a tick
-pub passed_back : (l t : ℕ) (s v : Scene) (u : State) (e : Refusal) → u ≡ ticked s.sender t → Err e ≡ tick_bytes (tick_answer s.sender t) → v ≡ with_sender u s → v ≡ time_passed l t s
-unfolding time_passed
-passed_back l t s v u e h b y = y ∙ ap (λ x. with_sender x s) h ∙ at (tick_answer s.sender t) b
-  where
-    at : (a : Ticked) → Err e ≡ tick_bytes a → with_sender (ticked s.sender t) s ≡ tick_noted l t a (with_sender (ticked s.sender t) s)
-    at back q = refl
-    at nothing q = let z : ◌≡◌ {A = ℕ} 0 1 = cc in absurd (omega arith)
-    at (told k) q = let z : ◌≡◌ {A = ℕ} 0 1 = cc in absurd (omega arith)
-
-pub passed_on : (l t : ℕ) (s v : Scene) (u : State) → u ≡ ticked s.sender t → Ok None ≡ tick_bytes (tick_answer s.sender t) → v ≡ noted l Passed (at_time t (with_sender u s)) → v ≡ time_passed l t s
-unfolding time_passed
-passed_on l t s v u h b y = y ∙ ap (λ x. noted l Passed (at_time t (with_sender x s))) h ∙ at (tick_answer s.sender t) b
-  where
-    at : (a : Ticked) → Ok None ≡ tick_bytes a → noted l Passed (at_time t (with_sender (ticked s.sender t) s)) ≡ tick_noted l t a (with_sender (ticked s.sender t) s)
-    at back q = let z : ◌≡◌ {A = ℕ} 0 1 = cc in absurd (omega arith)
-    at nothing q = refl
-    at (told k) q = let z : ◌≡◌ {A = ℕ} 0 1 = cc in absurd (omega arith)
-
-pub passed_key : (l t n : ℕ) (s v x : Scene) (u : State) (b : List ℕ) → u ≡ ticked s.sender t → Ok (Some b) ≡ tick_bytes (tick_answer s.sender t) → x ≡ noted l Passed (at_time t (with_sender u s)) →
-    n ≡ length x.air → v ≡ noted l (Disclosed (n + 1)) (on_air b x) → v ≡ time_passed l t s
-unfolding time_passed
-passed_key l t n s v x u b h q y e z =
-    z ∙ ap (λ m. noted l (Disclosed (m + 1)) (on_air b x)) e ∙ ap (λ w. noted l (Disclosed (length w.air + 1)) (on_air b w)) (y ∙ ap (λ w. noted l Passed (at_time t (with_sender w s))) h) ∙ at (tick_answer s.sender t) q
-  where
-    at : (a : Ticked) → Ok (Some b) ≡ tick_bytes a → noted l (Disclosed (length s.air + 1)) (on_air b (noted l Passed (at_time t (with_sender (ticked s.sender t) s)))) ≡ tick_noted l t a (with_sender (ticked s.sender t) s)
-    at back q = let z : ◌≡◌ {A = ℕ} 0 1 = cc in absurd (omega arith)
-    at nothing q = let z : ◌≡◌ {A = ℕ} 0 1 = cc in absurd (omega arith)
-    at (told k) q =
-        let k' : b ≡ key_encoded k = cc in
-        ap (λ w. noted l (Disclosed (length s.air + 1)) (on_air w (noted l Passed (at_time t (with_sender (ticked s.sender t) s))))) k'
-
--- the sender was given a text
-pub said_not : (l : ℕ) (t : List ℕ) (s v : Scene) (u : State) (e : Refusal) → u ≡ said s.sender t → Err e ≡ sent_length (say_answer s.sender t) → v ≡ noted l (NotSaid e) (with_sender u s) → v ≡ spoken l t s
-unfolding spoken
-said_not l t s v u e h q y = y ∙ ap (λ x. noted l (NotSaid e) (with_sender x s)) h ∙ at (say_answer s.sender t) q
-  where
-    at : (a : Spoken) → Err e ≡ sent_length a → noted l (NotSaid e) (with_sender (said s.sender t) s) ≡ say_noted l a (with_sender (said s.sender t) s)
-    at (refused f) q = let k : e ≡ f = cc in ap (λ x. noted l (NotSaid x) (with_sender (said s.sender t) s)) k
-    at (sent x) q = let z : ◌≡◌ {A = ℕ} 0 1 = cc in absurd (omega arith)
-
-take_front : (xs ys : List ℕ) → take (length xs) (xs ++ ys) ≡ xs
-take_front [] ys = refl
-take_front (x ∷ xs) ys = ap (λ l. x ∷ l) (take_front xs ys)
-
-pub said_so : (l n m : ℕ) (t memory old : List ℕ) (count : ℕ) (s v x : Scene) (u : State) → u ≡ said s.sender t → Ok count ≡ sent_length (say_answer s.sender t) → memory ≡ sent_over (say_answer s.sender t) old →
-    n ≡ length s.air → m ≡ length x.said → x ≡ on_air (take (count - 0) memory) (with_sender u s) → v ≡ noted l (SaidOne (n + 1) m) x → v ≡ spoken l t s
-unfolding spoken
-said_so l n m t memory old count s v x u h q w e f y z =
-    z ∙ ap (λ k. noted l (SaidOne (n + 1) k) x) f ∙ ap (λ k. said_noted l (k + 1) x) e ∙ ap (said_noted l (length s.air + 1)) (y ∙ ap (λ k. on_air (take (count - 0) memory) (with_sender k s)) h) ∙ at (say_answer s.sender t) q w
-  where
-    at : (a : Spoken) → Ok count ≡ sent_length a → memory ≡ sent_over a old → said_noted l (length s.air + 1) (on_air (take (count - 0) memory) (with_sender (said s.sender t) s)) ≡ say_noted l a (with_sender (said s.sender t) s)
-    at (refused f) q w = let z : ◌≡◌ {A = ℕ} 0 1 = cc in absurd (omega arith)
-    at (sent p) q w =
-        let k : count ≡ length (message_encoded p) = cc in
-        let b : take (count - 0) memory ≡ message_encoded p = ap (λ i. take i memory) (sub-zero count ∙ k) ∙ ap (take (length (message_encoded p))) w ∙ take_front (message_encoded p) (drop (length (message_encoded p)) old) in
-        ap (λ i. said_noted l (length s.air + 1) (on_air i (with_sender (said s.sender t) s))) b
-
--- a receiver delivers
-pub delivers_said : (l r k : ℕ) (d : Said) (s v : Scene) → Some k ≡ which_said s.said d → v ≡ noted l (Delivered r (Some k)) s → v ≡ delivered_one l r d s
-unfolding delivered_one
-delivers_said l r k d s v e y = y ∙ ap (λ o. unsaid_too o d (noted l (Delivered r o) s)) e
-
-pub delivers_unsaid : (l r : ℕ) (d : Said) (s v : Scene) → None ≡ which_said s.said d → v ≡ unsaid_too None d (noted l (Delivered r None) s) → v ≡ delivered_one l r d s
-unfolding delivered_one
-delivers_unsaid l r d s v e y = y ∙ ap (λ o. unsaid_too o d (noted l (Delivered r o) s)) e
-
-pub saids_more : (new old : List Buffered) (k : Buffered) → new ≡ old ++ k ∷ [] → saids_in (messages_in new) ≡ saids_in (messages_in old) ++ as_said k ∷ []
+pub saids_more : (ms : List Buffered) (m : Buffered) → saids_in (messages_in (ms ++ m ∷ [])) ≡ saids_in (messages_in ms) ++ as_said m ∷ []
 unfolding saids_in
-saids_more new old k e = ap saids_in (messages_more new old k (as_message k) e refl) ∙ map_more (λ (w : Message). w.says) (messages_in old) (as_message k)
+saids_more ms m = rw (messages_more ms m) (map-append (λ (w : Message). w.says) (messages_in ms) (as_message m ∷ []))
 
--- a vector's length is its items'
-vec_counted : {A : Type 0} (v : Vec A Global) → vec_len v ≡ length (vec_items v)
-vec_counted v = v.ok.0
+pub saids_none : saids_in (messages_in []) ≡ []
+unfolding saids_in messages_in
+saids_none = refl
 
-pub air_counted : (v : Vec (Vec ℕ Global) Global) (n : ℕ) → n ≡ vec_len v → n ≡ length (bytes_of (vec_items v))
-air_counted v n e = e ∙ vec_counted v ∙ sym (length_bytes (vec_items v))
+-- a receiver that is there, and none
+pub there : (rs xs : List Receiver) (n : ℕ) (r : Receiver) → xs ≡ rs → n < length xs → r ≡ get_or xs n r → slice_get (sites_of rs) n ≡ Some (site_of r)
+there rs xs n r q h e = rw (← q) (slice_get-map site_of xs n ∙ ap (option_map site_of) (slice_get_read xs (length xs) n r refl h e))
 
-pub messages_counted : (v : Vec Buffered Global) (n : ℕ) → n ≡ vec_len v → n ≡ length (messages_in (vec_items v))
-unfolding messages_in
-messages_counted v n e = e ∙ vec_counted v ∙ sym (length-map (vec_items v) as_message)
+pub absent : (rs xs : List Receiver) (n : ℕ) → xs ≡ rs → length xs ≤ n → slice_get (sites_of rs) n ≡ None
+absent rs xs n q h = rw (← q) (slice_get-map site_of xs n ∙ ap (option_map site_of) (slice_get_past xs n h))
 
-length_sites : (rs : List Receiver) → length (sites_of rs) ≡ length rs
-unfolding sites_of
-length_sites rs = length-map rs site_of
-
--- whether a receiver is there
-pub is_there_lem : (v : Vec Receiver Global) (n m : ℕ) → m ≡ vec_len v → n < m → ltb n (length (sites_of (vec_items v))) ≡ true
-is_there_lem v n m e h = lt-ltb n (length (sites_of (vec_items v))) (subst (λ k. n < k) (e ∙ vec_counted v ∙ sym (length_sites (vec_items v))) h)
-
-pub not_there : (v : Vec Receiver Global) (n m : ℕ) → m ≡ vec_len v → m ≤ n → ltb n (length (sites_of (vec_items v))) ≡ false
-not_there v n m e h = le-ltb n (length (sites_of (vec_items v))) (subst (λ k. k ≤ n) (e ∙ vec_counted v ∙ sym (length_sites (vec_items v))) h)
-
-map_set : {A B : Type 0} (f : A → B) (xs : List A) (n : ℕ) (y : A) → map f (set xs n y) ≡ set (map f xs) n (f y)
-map_set f [] n y = refl
-map_set f (x ∷ xs) zero y = refl
-map_set f (x ∷ xs) (suc n) y = ap (λ r. f x ∷ r) (map_set f xs n y)
-
-pub site_at_lem : (v : Vec Receiver Global) (n m : ℕ) (r : Receiver) → m ≡ vec_len v → n < m → r ≡ get_or (vec_items v) n r → get_or (sites_of (vec_items v)) n no_site ≡ site_of r
-unfolding sites_of
-site_at_lem v n m r e h y = get_d_map site_of (vec_items v) n r no_site (subst (λ k. n < k) (e ∙ vec_counted v) h) ∙ ap site_of (sym y)
+pub at_none : (n : ℕ) (f : Site → Scene) (s : Scene) → slice_get s.sites n ≡ None → s ≡ of_site n f s
+at_none n f s e = rw e refl
 
 -- a receiver is handed something
-pub site_moved : (v : Vec Receiver Global) (n m : ℕ) (r q : Receiver) (i : Input) → m ≡ vec_len v → n < m → r ≡ get_or (vec_items v) n r → q.parameters ≡ r.parameters → state_of q ≡ state_after (params_of r) i (state_of r) →
-    sites_of (set (vec_items v) n q) ≡ set (sites_of (vec_items v)) n (site_after i (get_or (sites_of (vec_items v)) n no_site))
-unfolding sites_of
-site_moved v n m r q i e h y p st =
-    map_set site_of (vec_items v) n q
-    ∙ ap (λ a. set (sites_of (vec_items v)) n a) (ap (λ z. record { numbers = parameters_of z; state = state_of q }) p ∙ ap (λ z. record { numbers = params_of r; state = z }) st ∙ ap (site_after i) (sym (site_at_lem v n m r e h y)))
+pub handed : (rs : List Receiver) (n : ℕ) (r q : Receiver) (i : Input) → q.parameters ≡ r.parameters → state_of q ≡ state_after (params_of r) i (state_of r) → sites_of (set rs n q) ≡ set (sites_of rs) n (site_after i (site_of r))
+handed rs n r q i p st = let e : site_of q ≡ site_after i (site_of r) = cc in map-set site_of rs n q ∙ ap (set (sites_of rs) n) e
 
-pub told_one_lem : (l n t : ℕ) (s v : Scene) (rs : List Site) → ltb n (length s.sites) ≡ true → rs ≡ set s.sites n (site_after (own_clock (tick_encoded t)) (site_at s n)) → v ≡ noted l (Told (n + 1) t) (with_sites rs s) → v ≡ clock_told l n t s
-unfolding clock_told
-told_one_lem l n t s v rs h e y = y ∙ ap (λ z. noted l (Told (n + 1) t) (with_sites z s)) e ∙ sym (cond-true _ _ _ h)
+-- what is delivered and wasn't said
+pub unsaid_one : (l r : ℕ) (d : Said) (s t : Scene) (o : Option ℕ) (us : List Said) → o ≡ which_said s.said d → is_some o ≡ false → t ≡ noted l (Delivered r o) s → us ≡ t.unsaid ++ d ∷ [] → record t { unsaid = us } ≡ delivered_one l r d s
+unsaid_one l r d s t (Some k) us e h f g = cc
+unsaid_one l r d s t None us e h f g =
+    subst (λ o. record t { unsaid = us } ≡ unsaid_too o d (noted l (Delivered r o) s)) e
+    (ap (λ v. record t { unsaid = v }) g ∙ ap (λ (x : Scene). record x { unsaid = x.unsaid ++ d ∷ [] }) f)
 
-pub told_none : (l n t : ℕ) (s : Scene) → ltb n (length s.sites) ≡ false → s ≡ clock_told l n t s
-unfolding clock_told
-told_none l n t s h = sym (cond-false _ _ _ h)
+pub said_one : (l r : ℕ) (d : Said) (s t : Scene) (o : Option ℕ) → o ≡ which_said s.said d → is_some o ≡ true → t ≡ noted l (Delivered r o) s → t ≡ delivered_one l r d s
+said_one l r d s t None e h f = cc
+said_one l r d s t (Some k) e h f = subst (λ o. t ≡ unsaid_too o d (noted l (Delivered r o) s)) e f
 
-pub which_of : (m : Buffered) (xs ys : List Buffered) (o : Option ℕ) → xs ≡ ys → o ≡ which_said (messages_in xs) (record { interval = m.numbers.interval; index = m.numbers.index; text = take (m.numbers.len - 0) m.text }) → o ≡ which_said (messages_in ys) (as_said m)
-which_of m xs ys o e h =
-    h ∙ ap (λ n. which_said (messages_in xs) (record { interval = m.numbers.interval; index = m.numbers.index; text = take n m.text })) (sub-zero m.numbers.len) ∙ ap (λ zs. which_said (messages_in zs) (as_said m)) e
+-- one delivery more
+pub more_delivered : (l r i : ℕ) (ms : List Buffered) (d : Buffered) (s t u : Scene) → i < length ms → d ≡ get_or ms i d → t ≡ delivered_all l r (saids_in (messages_in (take i ms))) s → u ≡ delivered_one l r (as_said d) t →
+    u ≡ delivered_all l r (saids_in (messages_in (take (i + 1) ms))) s
+more_delivered l r i ms d s t u h y e f =
+    let more : take (i + 1) ms ≡ take i ms ++ d ∷ [] = take_more ms i d h ∙ ap (λ z. take i ms ++ z ∷ []) (sym y) in
+    rw (more, saids_more (take i ms) d) (f ∙ ap (delivered_one l r (as_said d)) e ∙ sym (fold-append (λ t d. delivered_one l r d t) s (saids_in (messages_in (take i ms))) (as_said d ∷ [])))
+
+-- what a tick came to, by its bytes
+is_back : (a : Ticked) (e : Refusal) → Err e ≡ tick_bytes a → a ≡ back
+is_back back e h = refl
+is_back nothing e h = cc
+is_back (told k) e h = cc
+
+is_nothing : (a : Ticked) → Ok None ≡ tick_bytes a → a ≡ nothing
+is_nothing back h = cc
+is_nothing nothing h = refl
+is_nothing (told k) h = cc
+
+pub passed_back : (l t : ℕ) (s : Scene) (u : State) (e : Refusal) → u ≡ ticked s.sender t → Err e ≡ tick_bytes (tick_answer s.sender t) → record s { sender = u } ≡ time_passed l t s
+unfolding time_passed
+passed_back l t s u e h b = let a : tick_answer s.sender t ≡ back = is_back _ e b in rw (h, a) refl
+
+pub passed_on : (l t : ℕ) (s : Scene) (u : State) → u ≡ ticked s.sender t → Ok None ≡ tick_bytes (tick_answer s.sender t) → noted l Passed (record s { time = t; sender = u }) ≡ time_passed l t s
+unfolding time_passed
+passed_on l t s u h b = let a : tick_answer s.sender t ≡ nothing = is_nothing _ b in rw (h, a) refl
+
+pub passed_key : (l t n : ℕ) (s v : Scene) (u : State) (b : List ℕ) → u ≡ ticked s.sender t → Ok (Some b) ≡ tick_bytes (tick_answer s.sender t) → n ≡ length s.air → v ≡ on_air b (noted l Passed (record s { time = t; sender = u })) →
+    noted l (Disclosed (n + 1)) v ≡ time_passed l t s
+unfolding time_passed
+passed_key l t n s v u b h q e y = rw (y, h, e) (at (tick_answer s.sender t) q)
+  where
+    at : (a : Ticked) → Ok (Some b) ≡ tick_bytes a → noted l (Disclosed (length s.air + 1)) (on_air b (noted l Passed (record s { time = t; sender = ticked s.sender t }))) ≡ tick_noted l t a (record s { sender = ticked s.sender t })
+    at back q = cc
+    at nothing q = cc
+    at (told k) q = let w : b ≡ key_encoded k = cc in rw w refl
+
+-- what saying something came to
+pub said_not : (l : ℕ) (t : List ℕ) (s : Scene) (u : State) (e : Refusal) → u ≡ said s.sender t → Err e ≡ sent_length (say_answer s.sender t) → noted l (NotSaid e) (record s { sender = u }) ≡ spoken l t s
+unfolding spoken
+said_not l t s u e h q = rw h (at (say_answer s.sender t) q)
+  where
+    at : (a : Spoken) → Err e ≡ sent_length a → noted l (NotSaid e) (record s { sender = said s.sender t }) ≡ say_noted l a (record s { sender = said s.sender t })
+    at (refused f) q = let w : e ≡ f = cc in rw w refl
+    at (sent x) q = cc
+
+take_over : (xs ys : List ℕ) → take (length xs) (over xs ys) ≡ xs
+take_over xs ys = grind (arith, common_steps)
+
+pub said_so : (l n count : ℕ) (t memory old : List ℕ) (s v : Scene) (u : State) → u ≡ said s.sender t → Ok count ≡ sent_length (say_answer s.sender t) → memory ≡ sent_over (say_answer s.sender t) old → n ≡ length s.air →
+    v ≡ on_air (take count memory) (record s { sender = u }) → noted l (SaidOne (n + 1) (length v.said)) v ≡ spoken l t s
+unfolding spoken
+said_so l n count t memory old s v u h q w e y = rw (y, h, e) (at (say_answer s.sender t) q w)
+  where
+    at : (a : Spoken) → Ok count ≡ sent_length a → memory ≡ sent_over a old → said_noted l (length s.air + 1) (on_air (take count memory) (record s { sender = said s.sender t })) ≡ say_noted l a (record s { sender = said s.sender t })
+    at (refused f) q w = cc
+    at (sent x) q w =
+        let k : count ≡ length (message_encoded x) = cc in
+        let b : take count memory ≡ message_encoded x = ap (λ i. take i memory) k ∙ ap (take (length (message_encoded x))) w ∙ take_over (message_encoded x) old in
+        ap (λ z. said_noted l (length s.air + 1) (on_air z (record s { sender = said s.sender t }))) b
 
 -- what is said fits where it is written
-pub count_within : (a : Spoken) (old memory : List ℕ) (r : Result ℕ Refusal) → length memory ≡ 256 → r ≡ sent_length a → memory ≡ sent_over a old → IfOk r (λ n. n ≤ 256)
-count_within (refused e) old memory r h q w = subst (λ x. IfOk x (λ n. n ≤ 256)) (sym q) tt
-count_within (sent x) old memory r h q w =
-    let whole : length memory ≡ length (message_encoded x) + length (drop (length (message_encoded x)) old) = ap length w ∙ length-append (message_encoded x) (drop (length (message_encoded x)) old) in
-    let few : length (message_encoded x) ≤ 256 = omega (arith, whole, h) in
-    subst (λ x. IfOk x (λ n. n ≤ 256)) (sym q) few
+pub count_within : (a : Spoken) (old memory : List ℕ) (n : ℕ) → Ok n ≡ sent_length a → memory ≡ sent_over a old → n ≤ length memory
+count_within (refused e) old memory n q w = cc
+count_within (sent x) old memory n q w = let k : n ≡ length (message_encoded x) = cc in rw (k, w) (grind (arith, common_steps))
 
-pub delivered_with : (l r : ℕ) (d : Said) (s v : Scene) (us : List Said) → v ≡ noted l (Delivered r None) s → us ≡ v.unsaid ++ d ∷ [] → scene v.time v.sender v.sites v.air v.said v.out v.events us ≡ unsaid_too None d (noted l (Delivered r None) s)
-delivered_with l r d s v us e f = ap (λ x. scene v.time v.sender v.sites v.air v.said v.out v.events x) f ∙ ap (unsaid_too None d) e
+-- lengths
+pub air_counted : (v : Vec (Vec ℕ Global) Global) → vec_len v ≡ length (bytes_of v.items)
+air_counted v = v.ok.0 ∙ sym (length-map v.items vec_items)
 
--- deliveries, one more
-pub deliveries_more : (l r : ℕ) (ds : List Said) (d : Said) (s : Scene) → delivered_all l r (ds ++ d ∷ []) s ≡ delivered_one l r d (delivered_all l r ds s)
-unfolding delivered_all
-deliveries_more l r [] d s = refl
-deliveries_more l r (x ∷ ds) d s = deliveries_more l r ds d (delivered_one l r x s)
+pub messages_counted : (v : Vec Buffered Global) → vec_len v ≡ length (messages_in v.items)
+unfolding messages_in
+messages_counted v = v.ok.0 ∙ sym (length-map v.items as_message)
 
-abbrev pub saids_of_first : ℕ → List Buffered → List Said
-saids_of_first i ms = saids_in (messages_in (take i ms))
+-- an outcome in the code and in the model
+pub named_meant : (o : Result Accepted Refusal) → named (meant o) ≡ o
+named_meant (Ok accepted.Told) = refl
+named_meant (Ok accepted.Buffered) = refl
+named_meant (Ok accepted.Already) = refl
+named_meant (Ok accepted.Taken) = refl
+named_meant (Err e) = refl
 
-pub none_delivered : (l r : ℕ) (ms : List Buffered) (s : Scene) → s ≡ delivered_all l r (saids_of_first 0 ms) s
-unfolding delivered_all saids_in messages_in
-none_delivered l r ms s = refl
+-- what comes of a receiver that is there
+pub told_one : (l n t : ℕ) (r : Site) (s : Scene) (rs : List Site) → slice_get s.sites n ≡ Some r → rs ≡ set s.sites n (site_after (own_clock (tick_encoded t)) r) → noted l (Told (n + 1) t) (record s { sites = rs }) ≡ clock_told l n t s
+unfolding clock_told
+told_one l n t r s rs e w = rw (w, e) refl
 
-pub more_delivered : (l r i : ℕ) (ms : List Buffered) (d : Buffered) (s t u : Scene) → i < length ms → t ≡ delivered_all l r (saids_of_first i ms) s → u ≡ delivered_one l r (as_said (get_or ms i d)) t →
-    u ≡ delivered_all l r (saids_of_first (i + 1) ms) s
-more_delivered l r i ms d s t u h e f =
-    let m = get_or ms i d in
-    let more : saids_of_first (i + 1) ms ≡ saids_of_first i ms ++ as_said m ∷ [] = saids_more (take (i + 1) ms) (take i ms) m (take_more ms i d h) in
-    f ∙ ap (delivered_one l r (as_said m)) e ∙ sym (ap (λ ds. delivered_all l r ds s) more ∙ deliveries_more l r (saids_of_first i ms) (as_said m) s)
-
-pub all_delivered : (l r i n : ℕ) (ms : List Buffered) (s t : Scene) → i ≤ n → n ≤ i → t ≡ delivered_all l r (saids_of_first i ms) s → t ≡ delivered_all l r (saids_of_first n ms) s
-all_delivered l r i n ms s t h k e = let q : i ≡ n = omega (arith, h, k) in e ∙ ap (λ j. delivered_all l r (saids_of_first j ms) s) q
-
--- bytes reach a receiver
-pub named_meant : (o : Outcome) → named (meant o) ≡ o
-named_meant outcome.Told = refl
-named_meant outcome.Buffered = refl
-named_meant outcome.Already = refl
-named_meant outcome.Taken = refl
-named_meant (outcome.Refused e) = refl
-
-pub heard_none : (l n : ℕ) (k : Option ℕ) (b : List ℕ) (s : Scene) → ltb n (length s.sites) ≡ false → s ≡ heard_by l k n b s
+pub heard_one : (l n : ℕ) (k : Option ℕ) (b : List ℕ) (ds : List Said) (d : Deed) (r : Site) (s v : Scene) (rs : List Site) → slice_get s.sites n ≡ Some r → rs ≡ set s.sites n (site_after (from_air b) r) →
+    d ≡ hearing_of r (n + 1) k s.said b → ds ≡ delivered_of r.numbers (from_air b) r.state → v ≡ noted l d (record s { sites = rs }) → delivered_all l (n + 1) ds v ≡ heard_by l k n b s
 unfolding heard_by
-heard_none l n k b s h = sym (cond-false _ _ _ h)
+heard_one l n k b ds d r s v rs e w f g y = rw (y, w, f, g, e) refl
 
-pub heard_one : (l n : ℕ) (k : Option ℕ) (b : List ℕ) (ds : List Said) (d : Deed) (s v x : Scene) (rs : List Site) → ltb n (length s.sites) ≡ true → rs ≡ set s.sites n (site_after (from_air b) (site_at s n)) →
-    x ≡ noted l d (with_sites rs s) → d ≡ hearing_of (site_at s n) (n + 1) k s.said b → ds ≡ delivered_of (site_at s n).numbers (from_air b) (site_at s n).state → v ≡ delivered_all l (n + 1) ds x → v ≡ heard_by l k n b s
-unfolding heard_by
-heard_one l n k b ds d s v x rs h w e f g y =
-    y ∙ ap (delivered_all l (n + 1) ds) (e ∙ ap (λ z. noted l z (with_sites rs s)) f ∙ ap (λ z. noted l (hearing_of (site_at s n) (n + 1) k s.said b) (with_sites z s)) w)
-    ∙ ap (λ z. delivered_all l (n + 1) z (noted l (hearing_of (site_at s n) (n + 1) k s.said b) (moved n (from_air b) s))) g ∙ sym (cond-true _ _ _ h)
-
-pub heard_deed : (a : Site) (r c : ℕ) (k o : Option ℕ) (ms : List Message) (b : List ℕ) (q : Receiver) (m : Outcome) → a ≡ site_of q → c ≡ q.clock → o ≡ which_message ms (air_event b) → meant m ≡ outcome_of (params_of q) (from_air b) (state_of q) →
-    Heard r c k o m ≡ hearing_of a r k ms b
-heard_deed a r c k o ms b q m e f g h =
-    ap (λ z. Heard r z k o m) f ∙ ap (λ z. Heard r q.clock k z m) g ∙ ap (λ z. Heard r q.clock k (which_message ms (air_event b)) z) (sym (named_meant m) ∙ ap named h) ∙ ap (λ z. hearing_of z r k ms b) (sym e)
-
-pub heard_delivers : (a : Site) (b : List ℕ) (q : Receiver) (ds : List Said) → a ≡ site_of q → ds ≡ delivered_of (params_of q) (from_air b) (state_of q) → ds ≡ delivered_of a.numbers (from_air b) a.state
-heard_delivers a b q ds e f = f ∙ ap (λ (z : Site). delivered_of z.numbers (from_air b) z.state) (sym e)
-
--- two reads of one receiver
-pub same_element : (v : Vec Receiver Global) (n m : ℕ) (x r : Receiver) → m ≡ vec_len v → n < m → x ≡ get_or (vec_items v) n x → r ≡ get_or (vec_items v) n r → x ≡ r
-same_element v n m x r e h f g = f ∙ get_or_default (vec_items v) n x r (subst (λ k. n < k) (e ∙ vec_counted v) h) ∙ sym g
-
--- a message by time alone
-pub judged_none : (l n i : ℕ) (s : Scene) → ltb n (length s.sites) ≡ false → s ≡ judged_by l n i s
+pub judged_one : (l n i : ℕ) (j : Result Unit Refusal) (r : Site) (s : Scene) → slice_get s.sites n ≡ Some r → j ≡ judged r.numbers r.state.clock i → noted l (Judged (n + 1) r.state.clock i j) s ≡ judged_by l n i s
 unfolding judged_by
-judged_none l n i s h = sym (cond-false _ _ _ h)
-
-pub judged_one : (l n i : ℕ) (s v : Scene) (r : Receiver) (j : Judgement) → ltb n (length s.sites) ≡ true → site_at s n ≡ site_of r → j ≡ judged (params_of r) r.clock i → v ≡ noted l (Judged (n + 1) r.clock i j) s → v ≡ judged_by l n i s
-unfolding judged_by
-judged_one l n i s v r j h e f y = y ∙ ap (λ z. noted l (Judged (n + 1) r.clock i z) s) f ∙ ap (λ (z : Site). noted l (judgement_of z (n + 1) i) s) (sym e) ∙ sym (cond-true _ _ _ h)
+judged_one l n i j r s e f = rw (f, e) refl

@@ -1,5 +1,5 @@
 -- Which message that was said something is.
-use Rattle.std.specs.Prelude.{ℕ, zero, suc, ◌-◌, cond, ◌&&◌, List, [], length, Some, None, Option, ◌==◌, nat_lt, slice_index_or}
+use Rattle.std.specs.Prelude.{ℕ, ◌-◌, cond, ◌&&◌, List, [], reverse, length, Some, None, Option, ◌==◌, nat_le, slice_index_or, option_map, position, take_while}
 use Rattle.std.specs.Str.{bytes_eq}
 use Rattle.model.specs.Receiver.{Said, Message, Event, ticked, heard, disclosed}
 
@@ -10,13 +10,11 @@ no_message = record { says = record { interval = 0; index = 0; text = [] }; tag 
 abbrev pub said_at : List Message → (place : ℕ) → Said
 said_at ms k = (slice_index_or ms k no_message).says
 
--- the place, from 1, of the message of this interval and index among the first n: from the newest back, and no further than its interval
-unfoldable pub place_of : (n : ℕ) → List Message → (interval index : ℕ) → Option ℕ
-place_of zero ms i x = None
-place_of (suc n) ms i x =
-    cond (nat_lt (said_at ms n).interval i) None
-    (cond ((said_at ms n).interval == i && (said_at ms n).index == x) (Some (suc n))
-    (place_of n ms i x))
+-- the place, from 1, of the newest message of this interval and index: from the newest back, and no further than its interval
+unfoldable pub place_of : List Message → (interval index : ℕ) → Option ℕ
+place_of ms i x =
+    option_map (λ back. length ms - back)
+    (position (λ (m : Message). m.says.interval == i && m.says.index == x) (take_while (λ (m : Message). nat_le i m.says.interval) (reverse ms)))
 
 -- the same place if the text there is this one
 abbrev pub with_text : List Message → (text : List ℕ) → Option ℕ → Option ℕ
@@ -25,7 +23,7 @@ with_text ms t (Some k) = cond (bytes_eq (said_at ms (k - 1)).text t) (Some k) N
 
 -- the place, from 1, of what was said just so
 abbrev pub which_said : List Message → Said → Option ℕ
-which_said ms s = with_text ms s.text (place_of (length ms) ms s.interval s.index)
+which_said ms s = with_text ms s.text (place_of ms s.interval s.index)
 
 -- the same place if the tag there is this one
 abbrev pub with_tag : List Message → (tag : List ℕ) → Option ℕ → Option ℕ

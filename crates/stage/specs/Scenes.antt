@@ -1,16 +1,18 @@
 -- What stands in a play, and what each call makes of it.
-use Rattle.std.specs.Prelude.{ℕ, ◌+◌, cond, List, [], ◌∷◌, ◌++◌, map, length, Some, None, vec_items, Option, Vec, nat_lt, slice_index_or, slice_set}
+use Rattle.std.specs.Prelude.{ℕ, ◌+◌, cond, List, [], ◌∷◌, ◌++◌, map, length, Some, None, Ok, Err, vec_items, fold, Option, Result, Vec, nat_lt, slice_get, slice_set}
+use Rattle.std.specs.Option.{option_map_or}
 use Rattle.std.specs.declared.alloc.Global.{Global}
+use Rattle.timing.specs.declared.refusal.Refusal.{Refusal}
 use Rattle.timing.specs.Judged.{judged}
-use Rattle.timing.specs.Time.{Params, params}
+use Rattle.timing.specs.Time.{Params}
 use Rattle.model.specs.Receiver.{Said, Message}
 use Rattle.model.specs.Receiver as model
 use Rattle.wire.specs.Formats.{Key, key_encoded, message_encoded, tick_encoded, air_event}
 use Rattle.buffer.specs.Buffers.{messages_in, saids_in}
 use Rattle.receiver.specs.Calls.{Input, own_clock, from_air, state_after, outcome_of, delivered_of}
 use Rattle.receiver.specs.State.{params_of, state_of}
-use Rattle.receiver.specs.declared.outcome.Outcome.{Outcome}
-use Rattle.receiver.specs.declared.outcome.Outcome.TheVariants as outcome
+use Rattle.receiver.specs.declared.outcome.Accepted.{Accepted}
+use Rattle.receiver.specs.declared.outcome.Accepted.TheVariants as accepted
 use Rattle.receiver.specs.declared.state.Receiver.{Receiver}
 use Rattle.sender.specs.Of as sender
 use Rattle.sender.specs.State.{State, ticked, tick_answer, Ticked, back, nothing, told, said, say_answer, Spoken, refused, sent}
@@ -29,14 +31,10 @@ pub record Site : Type 0 where
 abbrev pub site_of : Receiver → Site
 site_of r = record { numbers = params_of r; state = state_of r }
 
-unfoldable pub sites_of : List Receiver → List Site
+abbrev pub sites_of : List Receiver → List Site
 sites_of rs = map site_of rs
 
--- what is read past the end of a list of receivers
-abbrev pub no_site : Site
-no_site = record { numbers = params 0 0 0 0; state = model.first_state [] }
-
-unfoldable pub bytes_of : List (Vec ℕ Global) → List (List ℕ)
+abbrev pub bytes_of : List (Vec ℕ Global) → List (List ℕ)
 bytes_of rs = map vec_items rs
 
 -- time: the real time; air: what was sent, the oldest first; said: the messages among it;
@@ -51,52 +49,47 @@ pub record Scene : Type 0 where
   pub events : List Event
   pub unsaid : List Said
 
-abbrev pub scene : ℕ → State → List Site → List (List ℕ) → List Message → Key → List Event → List Said → Scene
-scene t s rs a ms o es us = record { time = t; sender = s; sites = rs; air = a; said = ms; out = o; events = es; unsaid = us }
-
 abbrev pub out_of : Out → Key
 out_of o = record { interval = o.interval; key = o.key.bytes }
 
 abbrev pub scene_of : Cast → Scene
-scene_of c =
-    scene c.time (sender.state_of c.sender) (sites_of (vec_items c.receivers)) (bytes_of (vec_items c.air)) (messages_in (vec_items c.said))
-    (out_of c.out) (vec_items c.events) (saids_in (messages_in (vec_items c.unsaid)))
+scene_of c = record {
+  time = c.time;
+  sender = sender.state_of c.sender;
+  sites = sites_of (vec_items c.receivers);
+  air = bytes_of (vec_items c.air);
+  said = messages_in (vec_items c.said);
+  out = out_of c.out;
+  events = vec_items c.events;
+  unsaid = saids_in (messages_in (vec_items c.unsaid));
+}
 
 -- one event more, now
 abbrev pub noted : (line : ℕ) → Deed → Scene → Scene
-noted l d s = scene s.time s.sender s.sites s.air s.said s.out (s.events ++ record { line = l; time = s.time; deed = d } ∷ []) s.unsaid
+noted l d s = record s { events = s.events ++ record { line = l; time = s.time; deed = d } ∷ [] }
 
-abbrev pub newer : Key → (interval : ℕ) → (key : List ℕ) → Key
-newer o j k = cond (nat_lt o.interval j) (record { interval = j; key = k }) o
+abbrev pub newer : Key → Key → Key
+newer o k = cond (nat_lt o.interval k.interval) k o
 
 -- what is sent is noticed: a message is said, and a key is out
 abbrev pub noticed : Option model.Event → Scene → Scene
 noticed None s = s
 noticed (Some (model.ticked t)) s = s
-noticed (Some (model.heard x j k)) s = scene s.time s.sender s.sites s.air (s.said ++ x ∷ []) (newer s.out j k) s.events s.unsaid
-noticed (Some (model.disclosed j k)) s = scene s.time s.sender s.sites s.air s.said (newer s.out j k) s.events s.unsaid
-
-abbrev pub recorded : List ℕ → Scene → Scene
-recorded b s = scene s.time s.sender s.sites (s.air ++ b ∷ []) s.said s.out s.events s.unsaid
+noticed (Some (model.heard x j k)) s = record s { said = s.said ++ x ∷ []; out = newer s.out (record { interval = j; key = k }) }
+noticed (Some (model.disclosed j k)) s = record s { out = newer s.out (record { interval = j; key = k }) }
 
 -- bytes go on the air
-unfoldable pub on_air : List ℕ → Scene → Scene
-on_air b s = noticed (air_event b) (recorded b s)
-
-abbrev pub with_sender : State → Scene → Scene
-with_sender u s = scene s.time u s.sites s.air s.said s.out s.events s.unsaid
-
-abbrev pub at_time : ℕ → Scene → Scene
-at_time t s = scene t s.sender s.sites s.air s.said s.out s.events s.unsaid
+abbrev pub on_air : List ℕ → Scene → Scene
+on_air b s = noticed (air_event b) (record s { air = s.air ++ b ∷ [] })
 
 -- the sender was given a tick: what came of it, after it has passed
 abbrev pub tick_noted : (line tick : ℕ) → Ticked → Scene → Scene
 tick_noted l t back s = s
-tick_noted l t nothing s = noted l Passed (at_time t s)
-tick_noted l t (told k) s = noted l (Disclosed (length s.air + 1)) (on_air (key_encoded k) (noted l Passed (at_time t s)))
+tick_noted l t nothing s = noted l Passed (record s { time = t })
+tick_noted l t (told k) s = noted l (Disclosed (length s.air + 1)) (on_air (key_encoded k) (noted l Passed (record s { time = t })))
 
 unfoldable pub time_passed : (line tick : ℕ) → Scene → Scene
-time_passed l t s = tick_noted l t (tick_answer s.sender t) (with_sender (ticked s.sender t) s)
+time_passed l t s = tick_noted l t (tick_answer s.sender t) (record s { sender = ticked s.sender t })
 
 -- the sender was given a text
 abbrev pub said_noted : (line number : ℕ) → Scene → Scene
@@ -107,58 +100,54 @@ say_noted l (refused e) s = noted l (NotSaid e) s
 say_noted l (sent x) s = said_noted l (length s.air + 1) (on_air (message_encoded x) s)
 
 unfoldable pub spoken : (line : ℕ) → (text : List ℕ) → Scene → Scene
-spoken l t s = say_noted l (say_answer s.sender t) (with_sender (said s.sender t) s)
+spoken l t s = say_noted l (say_answer s.sender t) (record s { sender = said s.sender t })
 
 -- a receiver after it was handed something
 abbrev pub site_after : Input → Site → Site
-site_after i r = record { numbers = r.numbers; state = state_after r.numbers i r.state }
+site_after i r = record r { state = state_after r.numbers i r.state }
 
-abbrev pub site_at : Scene → (place : ℕ) → Site
-site_at s n = slice_index_or s.sites n no_site
+abbrev pub moved : (place : ℕ) → Input → Site → Scene → Scene
+moved n i r s = record s { sites = slice_set s.sites n (site_after i r) }
 
-abbrev pub with_sites : List Site → Scene → Scene
-with_sites rs s = scene s.time s.sender rs s.air s.said s.out s.events s.unsaid
+-- what comes of a receiver; places count from 0, and nothing does of one that isn't there
+abbrev pub of_site : (place : ℕ) → (Site → Scene) → Scene → Scene
+of_site n f s = option_map_or f (slice_get s.sites n) s
 
-abbrev pub moved : (place : ℕ) → Input → Scene → Scene
-moved n i s = with_sites (slice_set s.sites n (site_after i (site_at s n))) s
-
--- a receiver is told a tick of its own clock; places count from 0, and one that isn't there is told nothing
+-- a receiver is told a tick of its own clock
 unfoldable pub clock_told : (line place tick : ℕ) → Scene → Scene
-clock_told l n t s = cond (nat_lt n (length s.sites)) (noted l (Told (n + 1) t) (moved n (own_clock (tick_encoded t)) s)) s
+clock_told l n t s = of_site n (λ r. noted l (Told (n + 1) t) (moved n (own_clock (tick_encoded t)) r s)) s
 
 -- what an outcome is called in the code
-abbrev pub named : model.Outcome → Outcome
-named model.told = outcome.Told
-named model.buffered = outcome.Buffered
-named model.already = outcome.Already
-named model.taken = outcome.Taken
-named (model.refused e) = outcome.Refused e
+abbrev pub named : model.Outcome → Result Accepted Refusal
+named model.told = Ok accepted.Told
+named model.buffered = Ok accepted.Buffered
+named model.already = Ok accepted.Already
+named model.taken = Ok accepted.Taken
+named (model.refused e) = Err e
 
 -- a receiver delivers something: which message it is, if it was said
 abbrev pub unsaid_too : Option ℕ → Said → Scene → Scene
 unsaid_too (Some k) d s = s
-unsaid_too None d s = scene s.time s.sender s.sites s.air s.said s.out s.events (s.unsaid ++ d ∷ [])
+unsaid_too None d s = record s { unsaid = s.unsaid ++ d ∷ [] }
 
-unfoldable pub delivered_one : (line receiver : ℕ) → Said → Scene → Scene
+abbrev pub delivered_one : (line receiver : ℕ) → Said → Scene → Scene
 delivered_one l r d s = unsaid_too (which_said s.said d) d (noted l (Delivered r (which_said s.said d)) s)
 
-unfoldable pub delivered_all : (line receiver : ℕ) → List Said → Scene → Scene
-delivered_all l r [] s = s
-delivered_all l r (d ∷ ds) s = delivered_all l r ds (delivered_one l r d s)
+abbrev pub delivered_all : (line receiver : ℕ) → List Said → Scene → Scene
+delivered_all l r ds s = fold (λ t d. delivered_one l r d t) s ds
 
 -- what a receiver hears: which record it is, if it is brought as one
 abbrev pub hearing_of : Site → (receiver : ℕ) → Option ℕ → List Message → (bytes : List ℕ) → Deed
 hearing_of a r k ms b = Heard r a.state.clock k (which_message ms (air_event b)) (named (outcome_of a.numbers (from_air b) a.state))
 
--- bytes reach a receiver, which delivers; places count from 0, and one that isn't there hears nothing
+-- bytes reach a receiver, which delivers
 unfoldable pub heard_by : (line : ℕ) → Option ℕ → (place : ℕ) → (bytes : List ℕ) → Scene → Scene
 heard_by l k n b s =
-    cond (nat_lt n (length s.sites))
-    (delivered_all l (n + 1) (delivered_of (site_at s n).numbers (from_air b) (site_at s n).state) (noted l (hearing_of (site_at s n) (n + 1) k s.said b) (moved n (from_air b) s))) s
+    of_site n (λ r. delivered_all l (n + 1) (delivered_of r.numbers (from_air b) r.state) (noted l (hearing_of r (n + 1) k s.said b) (moved n (from_air b) r s))) s
 
--- a message of an interval, by a receiver's clock alone; places count from 0, and one that isn't there judges nothing
+-- a message of an interval, by a receiver's clock alone
 abbrev pub judgement_of : Site → (receiver interval : ℕ) → Deed
 judgement_of a r i = Judged r a.state.clock i (judged a.numbers a.state.clock i)
 
 unfoldable pub judged_by : (line place interval : ℕ) → Scene → Scene
-judged_by l n i s = cond (nat_lt n (length s.sites)) (noted l (judgement_of (site_at s n) (n + 1) i) s) s
+judged_by l n i s = of_site n (λ r. noted l (judgement_of r (n + 1) i) s) s

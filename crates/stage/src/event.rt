@@ -1,10 +1,9 @@
 // What happens in a play, one event after the other.
 use receiver::outcome::Outcome;
 use timing::refusal::Refusal;
-use timing::safety::Judgement;
 
 // Receivers, records on the air and messages that were said count from 1.
-#[derive(Clone, Copy, Drop)]
+#[derive(Clone, Copy, PartialEq, Eq, Debug, Drop)]
 pub enum Deed {
     // time went on
     Passed,
@@ -42,12 +41,12 @@ pub enum Deed {
         receiver: u64,
         clock: u64,
         interval: u32,
-        judgement: Judgement,
+        judgement: Result<(), Refusal>,
     },
 }
 
 // line: that of the script; time: the real time.
-#[derive(Clone, Copy, Drop)]
+#[derive(Clone, Copy, PartialEq, Eq, Debug, Drop)]
 pub struct Event {
     pub line: u64,
     pub time: u64,

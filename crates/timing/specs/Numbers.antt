@@ -1,9 +1,7 @@
--- The number of every refusal, and of what a message comes to by time.
-use Rattle.std.specs.Prelude.{ℕ}
+-- The number of every refusal, and of an answer.
+use Rattle.std.specs.Prelude.{ℕ, Ok, Err, Result}
 use Rattle.timing.specs.declared.refusal.Refusal.{Refusal}
 use Rattle.timing.specs.declared.refusal.Refusal.TheVariants.{Malformed, OutOfRange, TooLate, KeyHad, TooEarly, NoRoom, KeyNotAfter, KeyTooFar, KeyMisfit, ClockBack, BadSettings}
-use Rattle.timing.specs.declared.safety.Judgement.{Judgement}
-use Rattle.timing.specs.declared.safety.Judgement.TheVariants as judgement
 
 abbrev pub refusal_number : Refusal → ℕ
 refusal_number Malformed = 1
@@ -18,7 +16,7 @@ refusal_number KeyMisfit = 9
 refusal_number ClockBack = 10
 refusal_number BadSettings = 11
 
-abbrev pub judgement_number : Judgement → ℕ
-judgement_number judgement.InTime = 0
-judgement_number judgement.TooLate = refusal_number TooLate
-judgement_number judgement.TooEarly = refusal_number TooEarly
+-- 0 where nothing is refused
+abbrev pub number_of : {T : Type 0} → Result T Refusal → ℕ
+number_of (Ok x) = 0
+number_of (Err e) = refusal_number e

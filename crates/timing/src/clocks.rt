@@ -19,12 +19,7 @@ fn any_back(clocks: &[u64], ticks: &[u64]) -> bool
     requires { length clocks.now ≡ length ticks.now }
     ensures { result ≡ goes_back clocks.now ticks.now }
 {
-    for (i, clock) in clocks.iter().enumerate() {
-        if ticks[i] < *clock {
-            return true;
-        }
-    }
-    false
+    clocks.iter().zip(ticks).any(|(clock, tick)| tick < clock)
 }
 
 // All clocks set to the ticks that they show now, or none.

@@ -18,3 +18,12 @@ pub struct Parameters {
     ghost few_intervals: { last ≤ 16384 },
     ghost small_error: { 2 * error < ticks * delay },
 }
+
+// The same numbers before they are looked at.
+#[derive(Clone, Copy, PartialEq, Eq, Debug, Drop)]
+pub struct Numbers {
+    pub ticks: u64,
+    pub delay: u64,
+    pub error: u64,
+    pub last: u64,
+}

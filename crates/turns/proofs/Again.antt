@@ -3,6 +3,7 @@ use Rattle.std.proofs.Common.{◌≡◌, ℕ, ◌+◌, ◌-◌, ◌*◌, ◌/◌
 use Rattle.std.proofs.lemmas.Bool.{le-ltb, lt-ltb, cases_eq, cases_lt}
 use Rattle.std.proofs.lemmas.Bool.Decides.{nat_tests}
 use Rattle.turns.specs.declared.Turn.{Turn}
+use Rattle.turns.specs.declared.Turn.TheVariants.{Newest, Multiple}
 use Rattle.turns.specs.Turns.{disclosed, afterwards, next_multiple}
 use Rattle.turns.specs.Laws.{learned, Caught, Rising, CatchesUp}
 use Rattle.turns.proofs.Laws.{dist, turn, dist_some, dist_most, dist_less}
@@ -105,4 +106,5 @@ again true a r (n ∷ ns) few up =
     (cases_lt n 1024)
 
 pub catches_up : CatchesUp
-catches_up t r ns few up = again t.multiple t.thousands r ns few up
+catches_up (Newest a) = again false a
+catches_up (Multiple a) = again true a

@@ -1,5 +1,6 @@
 -- Hexadecimal digits, as the codes of their characters.
-use Rattle.std.specs.Prelude.{ℕ, zero, suc, ◌+◌, ◌-◌, ◌*◌, cond, List, [], ◌∷◌, ◌++◌, Some, None, Option, nat_le, slice_index}
+use Rattle.std.specs.Prelude.{◌≡◌, ℕ, ◌+◌, ◌-◌, ◌*◌, ◌/◌, cond, List, [], ◌∷◌, map, length, Some, None, Option, nat_le}
+use Rattle.std.specs.Simd.{first_chunks}
 
 -- x where a ≤ b ≤ z, else y
 abbrev pub within : ℕ → ℕ → ℕ → Option ℕ → Option ℕ → Option ℕ
@@ -15,12 +16,13 @@ pair_value (Some high) (Some low) = Some (16 * high + low)
 pair_value (Some high) None = None
 pair_value None low = None
 
-abbrev pub appended : Option (List ℕ) → Option ℕ → Option (List ℕ)
-appended (Some bytes) (Some b) = Some (bytes ++ b ∷ [])
-appended (Some bytes) None = None
-appended None b = None
+-- the byte that a pair of characters spells, if both are digits
+abbrev pub byte_value : List ℕ → Option ℕ
+byte_value [] = None
+byte_value (high ∷ []) = None
+byte_value (high ∷ low ∷ []) = pair_value (hex_value high) (hex_value low)
+byte_value (high ∷ low ∷ more ∷ rest) = None
 
--- the bytes that the first n pairs of a text spell, if each is two digits
-unfoldable pub spelled : ℕ → List ℕ → Option (List ℕ)
-spelled zero text = Some []
-spelled (suc n) text = appended (spelled n text) (pair_value (hex_value (slice_index text (2 * n))) (hex_value (slice_index text (2 * n + 1))))
+-- a text spells bytes, two digits each
+abbrev pub Spells : (text : List ℕ) → (bytes : List ℕ) → Type 0
+Spells text bytes = (length text ≡ 2 * length bytes) × (map Some bytes ≡ map byte_value (first_chunks 2 (length text / 2) text))

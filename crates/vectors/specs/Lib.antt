@@ -1,3 +1,4 @@
 pub mod Hex
 pub mod Chain
 pub mod Lines
+pub mod Outcomes

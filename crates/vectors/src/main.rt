@@ -7,65 +7,88 @@ mod hex;
 mod vector;
 
 use anyhow::anyhow;
-use std::{env, fs};
-use vector::{Kind, judge, passed_over};
+use fault::Fault;
+use std::alloc::Global;
+use std::{env, fmt, fs};
+use vector::{Outcome, judge_digest, judge_hmac, passed_over};
 
 // How many lines held a vector, how many of these differ, and how many lines were passed over.
-#[derive(Clone, Copy)]
+#[derive(Clone, Copy, Default, Drop)]
 struct Count {
     vectors: u64,
     differ: u64,
     passed: u64,
 }
 
+impl Count {
+    fn pass_over(&mut self) {
+        self.passed = self.passed.saturating_add(1);
+    }
+
+    fn add(&mut self, outcome: Outcome) {
+        self.vectors = self.vectors.saturating_add(1);
+        self.differ = self.differ.saturating_add(u64::from(!outcome.agrees));
+    }
+}
+
+impl fmt::Display for Count {
+    fn fmt<W: fmt::Write>(&self, f: &mut fmt::Formatter<W>) -> fmt::Result {
+        write!(
+            f,
+            "{} vectors, {} differ; {} lines passed over",
+            self.vectors, self.differ, self.passed
+        )
+    }
+}
+
+// A line's vector, run and compared.
+fn judge<F: Fn(Global, &[&str]) -> Result<Outcome, Fault>>(
+    heap: Global,
+    line: &str,
+    by: &F,
+) -> Result<Outcome, Fault>
+    requires { F.IsAlwaysCallable by.now }
+{
+    let words: Vec<&str> = line.split(' ').collect(heap)?;
+    by(heap, &words)
+}
+
 // Runs the vectors of a file, and prints a line for each: file, name, length of the text, and `ok` or `DIFFERS`.
-fn run_file(rt: &HostRuntime, file: &str, kind: Kind, mut count: Count) -> anyhow::Result<Count> {
+fn run_file<F: Fn(Global, &[&str]) -> Result<Outcome, Fault>>(
+    rt: &HostRuntime,
+    file: &str,
+    by: F,
+    count: &mut Count,
+) -> anyhow::Result<()>
+    requires { F.IsAlwaysCallable by }
+{
     let text = fs::read_to_string(rt, file)?;
-    for (i, line) in text.lines().enumerate() {
-        let number = i.saturating_add(1);
+    for (number, line) in (1u64..).zip(text.lines()) {
         if passed_over(line) {
-            count.passed = count.passed.saturating_add(1);
+            count.pass_over();
             continue;
         }
-        match judge(rt.alloc(), kind, line) {
-            Ok(outcome) => {
-                let name = line.split(' ').next().unwrap_or("");
-                let length = outcome.length;
-                let said = if outcome.agrees { "ok" } else { "DIFFERS" };
-                println!(rt; "{file} {name} {length} {said}")?;
-                count.vectors = count.vectors.saturating_add(1);
-                if !outcome.agrees {
-                    count.differ = count.differ.saturating_add(1);
-                }
-            }
-            Err(fault) => {
-                return Err(anyhow!(format!(in rt.alloc(); "\"{file}, line {number}: {fault}\"")?));
-            }
-        }
+        let outcome = judge(rt.alloc(), line, &by).map_err(|fault| anyhow!(
+            "\"{file}, line {number}: {fault}\""
+        ))?;
+        let name = line.split(' ').next().unwrap_or("");
+        println!(rt; "{file} {name} {outcome}")?;
+        count.add(outcome);
     }
-    Ok(count)
+    Ok(())
 }
 
 fn run(rt: &HostRuntime) -> anyhow::Result<()> {
     let mut args = env::args(rt)?.skip(1);
-    let Some(digests) = args.next() else {
-        return Err(anyhow!("\"no file of digests\""));
-    };
-    let Some(hmacs) = args.next() else {
-        return Err(anyhow!("\"no file of HMACs\""));
-    };
-    let none = Count {
-        vectors: 0,
-        differ: 0,
-        passed: 0,
-    };
-    let count = run_file(rt, digests.as_str(), Kind::Digests, none)?;
-    let count = run_file(rt, hmacs.as_str(), Kind::Hmacs, count)?;
-    let vectors = count.vectors;
-    let differ = count.differ;
-    let passed = count.passed;
-    println!(rt; "{vectors} vectors, {differ} differ; {passed} lines passed over")?;
-    if differ != 0 {
+    let digests = args
+        .next()
+        .ok_or_else(|| anyhow!("\"no file of digests\""))?;
+    let hmacs = args.next().ok_or_else(|| anyhow!("\"no file of HMACs\""))?;
+    let mut count = Count::default();
+    run_file(rt, digests.as_str(), judge_digest, &mut count)?;
+    run_file(rt, hmacs.as_str(), judge_hmac, &mut count)?;
+    println!(rt; "{count}")?;
+    if count.differ != 0 {
         return Err(anyhow!("\"a result is not the published one\""));
     }
     Ok(())

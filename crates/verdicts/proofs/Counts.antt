@@ -1,10 +1,9 @@
 -- Fates counted.
-use Rattle.std.proofs.Common.{◌≡◌, ℕ, ◌+◌, ◌-◌, ◌*◌, ◌<◌, ◌≤◌, Bool, true, false, cond, not, ◌&&◌, List, [], ◌∷◌, length, get_or, take, drop, sym, refl, ap, ◌∙◌, subst, add-mul, arith}
-use mir.Val.{bool_byte}
+use Rattle.std.proofs.Common.{◌≡◌, ℕ, ◌+◌, ◌-◌, ◌*◌, ◌<◌, ◌≤◌, Bool, true, false, cond, not, ◌&&◌, count_by, List, [], ◌∷◌, length, get_or, take, drop, sym, refl, ap, ◌∙◌, subst, add-mul, arith}
 use Rattle.std.proofs.lemmas.Nat.{mul-le}
 use Rattle.std.proofs.ByRecursion.{All-get_or, All-from_get_or}
-use Rattle.std.proofs.lemmas.List.{take_all, length-take-le, length-drop, get_or-take, get_or-drop}
-use Rattle.std.proofs.lemmas.List.Sums.{sum_by_more, sum_by-cons, count_by-le-length}
+use Rattle.std.proofs.lemmas.List.{length-take-le, length-drop, get_or-take, get_or-drop}
+use Rattle.std.proofs.lemmas.List.Sums.{sum_by-cons}
 use Rattle.std.proofs.lemmas.Bool.{false≢true, cond-true, and_from, le-leb}
 use Rattle.std.specs.List.{AllByRecursion}
 use Rattle.timing.specs.Time.{Params}
@@ -12,59 +11,11 @@ use Rattle.model.specs.Receiver.{Message}
 use Rattle.stage.specs.declared.event.Event.{Event}
 use Rattle.verdicts.specs.Fates.{no_fate, fate_of, row_of, AreFates}
 use Rattle.verdicts.specs.Laws.{Believed, ByAll, BelievedByAll, VerdictsHold}
-use Rattle.verdicts.specs.Verdicts.{count_of, believes, lacks_key, lacks_room, verdict_of}
+use Rattle.verdicts.specs.Verdicts.{believes, lacks_key, lacks_room, verdict_of}
 use Rattle.verdicts.specs.declared.fate.Fate.{Fate}
-use Rattle.verdicts.specs.declared.fate.Verdict.{Verdict}
 
-count_more : (is : Fate → Bool) (fs : List Fate) (i : ℕ) (d : Fate) → i < length fs → count_of is (take (i + 1) fs) ≡ count_of is (take i fs) + cond (is (get_or fs i d)) 1 0
-unfolding count_of
-count_more is fs i d h = sum_by_more (λ x. cond (is x) 1 0) fs i d h
-
-count_cons : (is : Fate → Bool) (f : Fate) (fs : List Fate) → count_of is (f ∷ fs) ≡ cond (is f) 1 0 + count_of is fs
-unfolding count_of
+count_cons : (is : Fate → Bool) (f : Fate) (fs : List Fate) → count_by is (f ∷ fs) ≡ cond (is f) 1 0 + count_by is fs
 count_cons is f fs = sum_by-cons (λ x. cond (is x) 1 0) f fs
-
-count_few : (is : Fate → Bool) (fs : List Fate) → count_of is fs ≤ length fs
-unfolding count_of
-count_few is fs = count_by-le-length is fs
-
--- a verdict by its numbers
-abbrev verdict_by : (reached believed room key outside : ℕ) → Verdict
-verdict_by a b c d e = record { reached = a; believed = b; no_room = c; no_key = d; outside = e }
-
-pub verdict_none : (fs : List Fate) → verdict_by 0 0 0 0 0 ≡ verdict_of (take 0 fs)
-unfolding count_of
-verdict_none fs = refl
-
-by_byte : (b : Bool) → bool_byte b ≡ cond b 1 0
-by_byte true = refl
-by_byte false = refl
-
--- one fate more
-more : (is : Fate → Bool) (fs : List Fate) (i n a : ℕ) (d : Fate) → i < length fs → n ≡ count_of is (take i fs) → a ≡ bool_byte (is (get_or fs i d)) → n + a ≡ count_of is (take (i + 1) fs)
-more is fs i n a d h e f = ap (λ z. z + a) e ∙ ap (λ z. count_of is (take i fs) + z) (f ∙ by_byte (is (get_or fs i d))) ∙ sym (count_more is fs i d h)
-
-pub verdict_more : (fs : List Fate) (i : ℕ) (d : Fate) (v : Verdict) (a b c k e : ℕ) → i < length fs → v ≡ verdict_of (take i fs) → a ≡ bool_byte (get_or fs i d).in_time → b ≡ bool_byte (believes (get_or fs i d)) →
-    c ≡ bool_byte (lacks_room (get_or fs i d)) → k ≡ bool_byte (lacks_key (get_or fs i d)) → e ≡ bool_byte (get_or fs i d).outside → verdict_by (v.reached + a) (v.believed + b) (v.no_room + c) (v.no_key + k) (v.outside + e) ≡ verdict_of (take (i + 1) fs)
-verdict_more fs i d v a b c k e h w ra rb rc rk re =
-    let pa = more (λ f. f.in_time) fs i v.reached a d h (ap (λ (z : Verdict). z.reached) w) ra in
-    let pb = more believes fs i v.believed b d h (ap (λ (z : Verdict). z.believed) w) rb in
-    let pc = more lacks_room fs i v.no_room c d h (ap (λ (z : Verdict). z.no_room) w) rc in
-    let pk = more lacks_key fs i v.no_key k d h (ap (λ (z : Verdict). z.no_key) w) rk in
-    let pe = more (λ f. f.outside) fs i v.outside e d h (ap (λ (z : Verdict). z.outside) w) re in
-    ap (λ z. verdict_by z (v.believed + b) (v.no_room + c) (v.no_key + k) (v.outside + e)) pa
-    ∙ ap (λ z. verdict_by (count_of (λ f. f.in_time) (take (i + 1) fs)) z (v.no_room + c) (v.no_key + k) (v.outside + e)) pb
-    ∙ ap (λ z. verdict_by (count_of (λ f. f.in_time) (take (i + 1) fs)) (count_of believes (take (i + 1) fs)) z (v.no_key + k) (v.outside + e)) pc
-    ∙ ap (λ z. verdict_by (count_of (λ f. f.in_time) (take (i + 1) fs)) (count_of believes (take (i + 1) fs)) (count_of lacks_room (take (i + 1) fs)) z (v.outside + e)) pk
-    ∙ ap (λ z. verdict_by (count_of (λ f. f.in_time) (take (i + 1) fs)) (count_of believes (take (i + 1) fs)) (count_of lacks_room (take (i + 1) fs)) (count_of lacks_key (take (i + 1) fs)) z) pe
-
--- no number passes that of the fates
-pub few : (is : Fate → Bool) (fs : List Fate) (i n a : ℕ) (b : Bool) → i < length fs → n ≡ count_of is (take i fs) → a ≡ bool_byte b → n + a ≤ length fs
-few is fs i n a true h e f = omega (arith, e, f, count_few is (take i fs), length-take-le i fs (omega (arith, h)))
-few is fs i n a false h e f = omega (arith, e, f, count_few is (take i fs), length-take-le i fs (omega (arith, h)))
-
-pub verdict_all : (fs : List Fate) (i : ℕ) (v : Verdict) → length fs ≤ i → v ≡ verdict_of (take i fs) → v ≡ verdict_of fs
-verdict_all fs i v h e = e ∙ ap verdict_of (take_all i fs h)
 
 -- what one fate adds
 abbrev one : Bool → ℕ
@@ -79,12 +30,8 @@ once f = by_flags f.in_time f.delivered f.buffered where
   by_flags true false false = refl
   by_flags false d b = refl
 
-count_empty : (is : Fate → Bool) → count_of is [] ≡ 0
-unfolding count_of
-count_empty is = refl
-
 parts : (fs : List Fate) → (verdict_of fs).reached ≡ (verdict_of fs).believed + (verdict_of fs).no_key + (verdict_of fs).no_room
-parts [] = omega (arith, count_empty (λ g. g.in_time), count_empty believes, count_empty lacks_key, count_empty lacks_room)
+parts [] = refl
 parts (f ∷ fs) = omega (arith, parts fs, once f, count_cons (λ g. g.in_time) f fs, count_cons believes f fs, count_cons lacks_key f fs, count_cons lacks_room f fs)
 
 -- a fate that is reached and not believed makes the verdict say so
@@ -116,7 +63,7 @@ said_so (f ∷ fs) e =
     (if_both f.in_time f.delivered here, said_so fs rest)
 
 is_so : (fs : List Fate) → AllByRecursion Believed fs → ByAll (verdict_of fs)
-is_so [] h = count_empty (λ g. g.in_time) ∙ sym (count_empty believes)
+is_so [] h = refl
 is_so (f ∷ fs) h = omega (arith, count_cons (λ g. g.in_time) f fs, count_cons believes f fs, both_if f.in_time f.delivered h.0, is_so fs h.1)
 
 pub row_end : (rs k : ℕ) → 1 ≤ k → k * rs ≡ (k - 1) * rs + rs

@@ -1,11 +1,11 @@
 -- What became of messages at receivers, from the events of a play.
-use Rattle.std.specs.Prelude.{◌≡◌, ℕ, ◌+◌, ◌-◌, ◌*◌, ◌≤◌, Bool, true, false, cond, not, ◌&&◌, ◌||◌, List, [], length, take, drop, Some, None, fold, Option, ◌==◌, nat_le, nat_lt, slice_index_or}
-use Rattle.timing.specs.Numbers.{refusal_number}
+use Rattle.std.specs.Prelude.{◌≡◌, ℕ, ◌+◌, ◌-◌, ◌*◌, ◌≤◌, Bool, true, false, cond, not, ◌&&◌, ◌||◌, List, [], length, take, drop, Some, None, Ok, Err, fold, Option, Result, ◌==◌, nat_le, nat_lt, slice_index_or}
 use Rattle.timing.specs.Time.{Params, opening, release}
+use Rattle.timing.specs.declared.refusal.Refusal.{Refusal}
 use Rattle.timing.specs.declared.refusal.Refusal.TheVariants.{NoRoom}
 use Rattle.model.specs.Receiver.{Message}
-use Rattle.receiver.specs.declared.outcome.Outcome.{Outcome}
-use Rattle.receiver.specs.declared.outcome.Outcome.TheVariants as outcome
+use Rattle.receiver.specs.declared.outcome.Accepted.{Accepted}
+use Rattle.receiver.specs.declared.outcome.Accepted.TheVariants.{Buffered}
 use Rattle.stage.specs.Saids.{said_at}
 use Rattle.stage.specs.declared.event.Deed.{Deed}
 use Rattle.stage.specs.declared.event.Deed.TheVariants.{Passed, Disclosed, Said, NotSaid, Told, Heard, Delivered, Judged}
@@ -21,30 +21,24 @@ is_in_time p i t = nat_lt (t + 2 * p.error) (opening p (release p i))
 abbrev pub is_within : Params → (time clock : ℕ) → Bool
 is_within p t c = nat_le t (c + p.error) && nat_le c (t + p.error)
 
-abbrev pub is_buffered : Outcome → Bool
-is_buffered outcome.Told = false
-is_buffered outcome.Buffered = true
-is_buffered outcome.Already = false
-is_buffered outcome.Taken = false
-is_buffered (outcome.Refused e) = false
+abbrev pub is_buffered : Result Accepted Refusal → Bool
+is_buffered (Ok Buffered) = true
+is_buffered _ = false
 
-abbrev pub is_no_room : Outcome → Bool
-is_no_room outcome.Told = false
-is_no_room outcome.Buffered = false
-is_no_room outcome.Already = false
-is_no_room outcome.Taken = false
-is_no_room (outcome.Refused e) = refusal_number e == refusal_number NoRoom
+abbrev pub is_no_room : Result Accepted Refusal → Bool
+is_no_room (Err NoRoom) = true
+is_no_room _ = false
 
 abbrev pub no_fate : Fate
 no_fate = record { in_time = false; outside = false; buffered = false; no_room = false; delivered = false }
 
 -- the message reached the receiver in time, its clock within its error or not
-abbrev pub reached_by : (within : Bool) → Outcome → Fate → Fate
+abbrev pub reached_by : (within : Bool) → Result Accepted Refusal → Fate → Fate
 reached_by w o f =
-    record { in_time = f.in_time || w; outside = f.outside || not w; buffered = f.buffered || is_buffered o; no_room = f.no_room || is_no_room o; delivered = f.delivered }
+    record f { in_time = f.in_time || w; outside = f.outside || not w; buffered = f.buffered || is_buffered o; no_room = f.no_room || is_no_room o }
 
 abbrev pub delivered_to : Fate → Fate
-delivered_to f = record { in_time = f.in_time; outside = f.outside; buffered = f.buffered; no_room = f.no_room; delivered = true }
+delivered_to f = record f { delivered = true }
 
 -- of which message at which receiver something tells
 abbrev pub pair_of : Deed → Option Pair
@@ -86,9 +80,12 @@ fate_of p said es k n = fold (fate_after p said k n) no_fate es
 abbrev pub place_of : (receivers message receiver : ℕ) → ℕ
 place_of rs k n = (k - 1) * rs + (n - 1)
 
-abbrev pub place_if_there : (messages receivers : ℕ) → Pair → Option ℕ
-place_if_there ms rs x =
-    cond ((nat_le 1 x.message && nat_le x.message ms) && (nat_le 1 x.receiver && nat_le x.receiver rs)) (Some (place_of rs x.message x.receiver)) None
+-- there are such a message and such a receiver
+pub record IsThere (messages receivers : ℕ) (x : Pair) : Type 0 where
+  pub some_message : 1 ≤ x.message
+  pub few_messages : x.message ≤ messages
+  pub some_receiver : 1 ≤ x.receiver
+  pub few_receivers : x.receiver ≤ receivers
 
 -- the fates of one message at all receivers
 abbrev pub row_of : (receivers message : ℕ) → List Fate → List Fate

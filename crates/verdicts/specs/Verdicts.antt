@@ -1,5 +1,5 @@
 -- What became of one message, from its fates at all receivers.
-use Rattle.std.specs.Prelude.{ℕ, Bool, not, ◌&&◌, List, count_by}
+use Rattle.std.specs.Prelude.{Bool, not, ◌&&◌, List, count_by}
 use Rattle.verdicts.specs.declared.fate.Fate.{Fate}
 use Rattle.verdicts.specs.declared.fate.Verdict.{Verdict}
 
@@ -15,10 +15,6 @@ lacks_key f = (f.in_time && not f.delivered) && f.buffered
 abbrev pub lacks_room : Fate → Bool
 lacks_room f = (f.in_time && not f.delivered) && not f.buffered
 
--- how many fates are so
-unfoldable pub count_of : (Fate → Bool) → List Fate → ℕ
-count_of is fates = count_by is fates
-
 abbrev pub verdict_of : List Fate → Verdict
 verdict_of fs =
-    record { reached = count_of (λ f. f.in_time) fs; believed = count_of believes fs; no_room = count_of lacks_room fs; no_key = count_of lacks_key fs; outside = count_of (λ f. f.outside) fs }
+    record { reached = count_by (λ f. f.in_time) fs; believed = count_by believes fs; no_room = count_by lacks_room fs; no_key = count_by lacks_key fs; outside = count_by (λ f. f.outside) fs }

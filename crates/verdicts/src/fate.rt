@@ -1,8 +1,15 @@
 // What became of one message at one receiver.
+ghost use Rattle.std.specs.Prelude.{◌≡◌};
+ghost use Rattle.verdicts.specs.Fates.{reached_by, pair_of};
+
+use receiver::outcome::{Accepted, Outcome};
+use stage::event::Deed;
+use timing::refusal::Refusal;
 
 // in_time: it reached the receiver in time, the clock within its error; outside: it did so with a clock outside of it;
 // buffered, no_room: what it came to at one of the times at which it reached the receiver in time; delivered: the receiver delivered it.
-#[derive(Clone, Copy, Drop)]
+// Five flags and no enum, since each can hold beside each other.
+#[derive(Clone, Copy, PartialEq, Eq, Debug, Default, Drop)]
 pub struct Fate {
     pub in_time: bool,
     pub outside: bool,
@@ -11,16 +18,51 @@ pub struct Fate {
     pub delivered: bool,
 }
 
+impl Fate {
+    // After the message reached the receiver in time, its clock within its error or not.
+    pub(crate) fn reached(self, within: bool, outcome: Outcome) -> Fate
+        ensures { result ≡ reached_by within outcome self }
+    {
+        Fate {
+            in_time: self.in_time || within,
+            outside: self.outside || !within,
+            buffered: self.buffered || matches!(outcome, Ok(Accepted::Buffered)),
+            no_room: self.no_room || matches!(outcome, Err(Refusal::NoRoom)),
+            ..self
+        }
+    }
+}
+
 // A message and a receiver, which count from 1.
-#[derive(Clone, Copy, Drop)]
+#[derive(Clone, Copy, PartialEq, Eq, Debug, Drop)]
 pub struct Pair {
     pub message: usize,
     pub receiver: u64,
 }
 
+impl Pair {
+    // Of which message at which receiver an event tells.
+    pub(crate) fn of(deed: Deed) -> Option<Pair>
+        ensures { result ≡ pair_of deed }
+    {
+        match deed {
+            Deed::Heard {
+                receiver,
+                message: Some(message),
+                ..
+            }
+            | Deed::Delivered {
+                receiver,
+                message: Some(message),
+            } => Some(Pair { message, receiver }),
+            _ => None,
+        }
+    }
+}
+
 // Of one message, over all receivers: how many it reached in time, and of those how many believe it, and why the others don't:
 // there was no room, or no key came; and how many it reached in time with clocks outside of their error.
-#[derive(Clone, Copy, Drop)]
+#[derive(Clone, Copy, PartialEq, Eq, Debug, Drop)]
 pub struct Verdict {
     pub reached: usize,
     pub believed: usize,

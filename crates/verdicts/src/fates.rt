@@ -1,17 +1,16 @@
 // The fates of messages, from the events of a play.
-ghost use Rattle.std.specs.Prelude.{◌≡◌, ◌*◌, ◌^◌, ◌<◌, length, replicate, IfSome, IfOk, fold};
+ghost use Rattle.std.specs.Prelude.{◌≡◌, ◌*◌, ◌<◌, length, replicate, count_by, vec_len, IfSome, IfOk, MatchOption};
 ghost use Rattle.timing.specs.Time.{parameters_of};
 ghost use Rattle.buffer.specs.Buffers.{messages_in};
-ghost use Rattle.verdicts.specs.Fates.{no_fate, is_in_time, is_within, is_buffered, is_no_room, reached_by, pair_of, changed_by, place_if_there, row_of, Moved, fate_after, AreFates};
+ghost use Rattle.verdicts.specs.Fates.{no_fate, is_in_time, is_within, changed_by, place_of, row_of, IsThere, Moved, fate_after, AreFates};
 ghost use Rattle.verdicts.specs.Verdicts.{believes, lacks_key, lacks_room, verdict_of};
+ghost use Rattle.verdicts.specs.declared.fate.Fate.{Fate as TheFate};
 
 use crate::fate::{Fate, Pair, Verdict};
 use buffer::message::Buffered;
-use receiver::outcome::Outcome;
 use stage::event::{Deed, Event};
 use std::alloc::{AllocError, Global};
 use timing::parameters::Parameters;
-use timing::refusal::Refusal;
 
 // Whether a message of an interval that reaches a receiver at a real time is in time: twice the error of a clock later, its key can't be out yet.
 pub fn in_time(p: Parameters, interval: u16, time: u64) -> bool
@@ -29,61 +28,13 @@ pub fn within(p: Parameters, time: u64, clock: u64) -> bool
     u128::from(time) <= u128::from(clock) + error && u128::from(clock) <= u128::from(time) + error
 }
 
-fn is_buffered(outcome: Outcome) -> bool
-    ensures { result ≡ is_buffered outcome }
-{
-    matches!(outcome, Outcome::Buffered)
-}
-
-fn is_no_room(outcome: Outcome) -> bool
-    ensures { result ≡ is_no_room outcome }
-{
-    matches!(outcome, Outcome::Refused(Refusal::NoRoom))
-}
-
-// A fate after the message reached the receiver in time.
-fn reached(fate: Fate, within: bool, outcome: Outcome) -> Fate
-    ensures { result ≡ reached_by within outcome fate }
-{
-    let buffered = is_buffered(outcome);
-    let no_room = is_no_room(outcome);
-    Fate {
-        in_time: fate.in_time || within,
-        outside: fate.outside || !within,
-        buffered: fate.buffered || buffered,
-        no_room: fate.no_room || no_room,
-        delivered: fate.delivered,
-    }
-}
-
-// Of which message at which receiver an event tells.
-fn pair(deed: Deed) -> Option<Pair>
-    ensures { result ≡ pair_of deed }
-{
-    match deed {
-        Deed::Heard {
-            receiver,
-            message: Some(message),
-            ..
-        } => Some(Pair { message, receiver }),
-        Deed::Delivered {
-            receiver,
-            message: Some(message),
-        } => Some(Pair { message, receiver }),
-        _ => None,
-    }
-}
-
 // A fate after an event that tells of its message, of this interval, at its receiver.
 fn changed(p: Parameters, interval: u16, event: Event, mut fate: Fate) -> Fate
     ensures { result ≡ changed_by (parameters_of p) interval event.time event.deed fate }
 {
     match event.deed {
-        Deed::Heard { clock, outcome, .. } => {
-            if !in_time(p, interval, event.time) {
-                return fate;
-            }
-            reached(fate, within(p, event.time, clock), outcome)
+        Deed::Heard { clock, outcome, .. } if in_time(p, interval, event.time) => {
+            fate.reached(within(p, event.time, clock), outcome)
         }
         Deed::Delivered { .. } => {
             fate.delivered = true;
@@ -93,126 +44,154 @@ fn changed(p: Parameters, interval: u16, event: Event, mut fate: Fate) -> Fate
     }
 }
 
-// The place of a fate, if there are such a message and such a receiver.
-fn place(pair: Pair, messages: usize, receivers: usize) -> Option<usize>
-    requires { messages * receivers < 2 ^ 64 }
-    ensures is { result ≡ place_if_there messages receivers pair }
-    ensures below { IfSome result (λ at. at < messages * receivers) }
-{
-    let receiver = pair.receiver as usize;
-    if pair.message < 1 || pair.message > messages || receiver < 1 || receiver > receivers {
-        return None;
-    }
-    Some((pair.message - 1) * receivers + (receiver - 1))
+// A play: its settings, the messages that were said, what happened, and how many receivers there are.
+#[derive(Clone, Copy, Drop)]
+pub struct Play<'a> {
+    pub parameters: Parameters,
+    pub said: &'a [Buffered],
+    pub events: &'a [Event],
+    pub receivers: usize,
 }
 
-// The fates after one event more.
-fn note(p: Parameters, said: &[Buffered], receivers: usize, event: Event, all: &mut [Fate])
-    requires { length all.old ≡ length said.now * receivers }
-    ensures { Moved (λ k n f. fate_after (parameters_of p) (messages_in said.now) k n f event) (length said.now) receivers all.old all.new }
-{
-    let Some(pair) = pair(event.deed) else {
-        return;
-    };
-    let Some(at) = place(pair, said.len(), receivers) else {
-        return;
-    };
-    let interval = said[pair.message - 1].numbers.interval;
-    all[at] = changed(p, interval, event, all[at]);
-}
-
-// The fates after all events.
-fn note_all(p: Parameters, said: &[Buffered], receivers: usize, events: &[Event], all: &mut [Fate])
-    requires { length all.old ≡ length said.now * receivers }
-    ensures { Moved (λ k n f. fold (fate_after (parameters_of p) (messages_in said.now) k n) f events.now) (length said.now) receivers all.old all.new }
-{
-    for event in events {
-        note(p, said, receivers, *event, all);
+impl Play<'_> {
+    // For each message that was said, in their order, the fates at all receivers, in their order.
+    pub fn fates(self, heap: Global) -> Result<Fates, AllocError>
+        ensures receivers { IfOk result (λ t. t.receivers ≡ self.entry.receivers) }
+        ensures fates { IfOk result (λ t. AreFates (parameters_of self.entry.parameters) (messages_in self.entry.said.now) self.entry.events.now self.entry.receivers t.all.items) }
+    {
+        let mut fates = Fates::blank(heap, self.said.len(), self.receivers)?;
+        for event in self.events {
+            fates.note(self.parameters, self.said, *event);
+        }
+        Ok(fates)
     }
 }
 
-// For each message a fate at each receiver, in which nothing has become of it.
-fn blank(heap: Global, said: &[Buffered], receivers: usize) -> Result<Vec<Fate>, AllocError>
-    ensures { IfOk result (λ v. v.items ≡ replicate (length said.now * receivers) no_fate) }
-{
-    let none = Fate {
-        in_time: false,
-        outside: false,
-        buffered: false,
-        no_room: false,
-        delivered: false,
-    };
-    let row = vec![in heap; none; receivers]?;
-    let mut all = Vec::new(heap);
-    for _message in said {
-        all.extend_from_slice(row.as_slice())?;
+// The fates of all messages at all receivers: those of one message stand together, in the order of the receivers.
+#[derive(Debug, Drop)]
+pub struct Fates {
+    pub messages: usize,
+    pub receivers: usize,
+    pub all: Vec<Fate>,
+    ghost whole: { vec_len all ≡ messages * receivers },
+}
+
+impl Fates {
+    // Nothing has become of any message.
+    fn blank(heap: Global, messages: usize, receivers: usize) -> Result<Fates, AllocError>
+        ensures messages { IfOk result (λ t. t.messages ≡ messages) }
+        ensures receivers { IfOk result (λ t. t.receivers ≡ receivers) }
+        ensures all { IfOk result (λ t. t.all.items ≡ replicate (messages * receivers) no_fate) }
+    {
+        let row = vec![in heap; Fate::default(); receivers]?;
+        let mut all = Vec::new(heap);
+        for _message in 0..messages {
+            all.extend_from_slice(row.as_slice())?;
+        }
+        Ok(Fates {
+            messages,
+            receivers,
+            all,
+        })
     }
-    Ok(all)
-}
 
-// For each message that was said, in their order, the fates at all receivers, in their order.
-pub fn fates(
-    heap: Global,
-    p: Parameters,
-    said: &[Buffered],
-    events: &[Event],
-    receivers: usize,
-) -> Result<Vec<Fate>, AllocError>
-    ensures { IfOk result (λ v. AreFates (parameters_of p) (messages_in said.now) events.now receivers v.items) }
-{
-    let mut all = blank(heap, said, receivers)?;
-    note_all(p, said, receivers, events, all.as_mut_slice());
-    Ok(all)
-}
-
-// The fates of one message at all receivers, from those of all messages; none if there is no such message.
-pub fn of_message(fates: &[Fate], receivers: usize, message: usize) -> &[Fate]
-    ensures { result.now ≡ row_of receivers message fates.now }
-{
-    let Some(end) = message.checked_mul(receivers) else {
-        return &fates[0..0];
-    };
-    if message < 1 || end > fates.len() {
-        return &fates[0..0];
+    // The place of a fate, if there are such a message and such a receiver.
+    // An index and no `chunks_exact_mut`, since a proof learns nothing of what is written through that.
+    fn place(&self, pair: Pair) -> Option<usize>
+        ensures there { MatchOption result (IsThere self.now.messages self.now.receivers pair → ⊥) (λ at. IsThere self.now.messages self.now.receivers pair × (at ≡ place_of self.now.receivers pair.message pair.receiver)) }
+        ensures below { IfSome result (λ at. at < vec_len self.now.all) }
+    {
+        let row = pair.message.checked_sub(1)?;
+        let column = (pair.receiver as usize).checked_sub(1)?;
+        if row >= self.messages || column >= self.receivers {
+            return None;
+        }
+        Some(row * self.receivers + column)
     }
-    &fates[end - receivers..end]
+
+    // One event more.
+    fn note(&mut self, p: Parameters, said: &[Buffered], event: Event)
+        requires { length said.now ≡ self.old.messages }
+        ensures messages { self.new.messages ≡ self.old.messages }
+        ensures receivers { self.new.receivers ≡ self.old.receivers }
+        ensures moved { Moved (λ k n f. fate_after (parameters_of p) (messages_in said.now) k n f event) self.old.messages self.old.receivers self.old.all.items self.new.all.items }
+    {
+        let Some(pair) = Pair::of(event.deed) else {
+            return;
+        };
+        let Some(at) = self.place(pair) else {
+            return;
+        };
+        let interval = said[pair.message - 1].numbers.interval;
+        self.all[at] = changed(p, interval, event, self.all[at]);
+    }
+
+    // Those of one message at all receivers; none if there is no such message.
+    // A range and no `chunks_exact`, which takes no rows of no receivers.
+    pub fn of_message(&self, message: usize) -> &[Fate]
+        ensures { result.now ≡ row_of self.now.receivers message self.now.all.items }
+    {
+        let Some(end) = message.checked_mul(self.receivers) else {
+            return &[];
+        };
+        if message < 1 || end > self.all.len() {
+            return &[];
+        }
+        &self.all[end - self.receivers..end]
+    }
 }
 
-fn believed(fate: Fate) -> bool
-    ensures { result ≡ believes fate }
+// Five functions, and no five chains in `verdict`: the check finds a proof of one count in a function, and none of five.
+// How many a message reached in time.
+fn reached(fates: &[Fate]) -> usize
+    ensures { result ≡ count_by (λ (f : TheFate). f.in_time) fates.now }
 {
-    fate.in_time && fate.delivered
+    fates.iter().filter(|f| f.in_time).count()
 }
 
-fn no_key(fate: Fate) -> bool
-    ensures { result ≡ lacks_key fate }
+// How many of those believe it.
+fn believed(fates: &[Fate]) -> usize
+    ensures { result ≡ count_by believes fates.now }
 {
-    fate.in_time && !fate.delivered && fate.buffered
+    fates.iter().filter(|f| f.in_time && f.delivered).count()
 }
 
-fn no_room(fate: Fate) -> bool
-    ensures { result ≡ lacks_room fate }
+// How many of those had no room.
+fn no_room(fates: &[Fate]) -> usize
+    ensures { result ≡ count_by lacks_room fates.now }
 {
-    fate.in_time && !fate.delivered && !fate.buffered
+    fates
+        .iter()
+        .filter(|f| f.in_time && !f.delivered && !f.buffered)
+        .count()
+}
+
+// How many of those got no key.
+fn no_key(fates: &[Fate]) -> usize
+    ensures { result ≡ count_by lacks_key fates.now }
+{
+    fates
+        .iter()
+        .filter(|f| f.in_time && !f.delivered && f.buffered)
+        .count()
+}
+
+// How many it reached in time with clocks outside of their error.
+fn outside(fates: &[Fate]) -> usize
+    ensures { result ≡ count_by (λ (f : TheFate). f.outside) fates.now }
+{
+    fates.iter().filter(|f| f.outside).count()
 }
 
 // What became of one message, from its fates at all receivers.
 pub fn verdict(fates: &[Fate]) -> Verdict
     ensures { result ≡ verdict_of fates.now }
 {
-    let mut v = Verdict {
-        reached: 0,
-        believed: 0,
-        no_room: 0,
-        no_key: 0,
-        outside: 0,
-    };
-    for fate in fates {
-        v.reached += usize::from(fate.in_time);
-        v.believed += usize::from(believed(*fate));
-        v.no_room += usize::from(no_room(*fate));
-        v.no_key += usize::from(no_key(*fate));
-        v.outside += usize::from(fate.outside);
+    Verdict {
+        reached: reached(fates),
+        believed: believed(fates),
+        no_room: no_room(fates),
+        no_key: no_key(fates),
+        outside: outside(fates),
     }
-    v
 }

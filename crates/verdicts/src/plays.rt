@@ -1,5 +1,5 @@
 // A play on a stage, and its verdicts.
-use crate::fates::{fates, of_message, verdict};
+use crate::fates::{Play, verdict};
 use keychain::key::Key;
 use receiver::state::Receiver;
 use sender::state::Sender;
@@ -43,6 +43,7 @@ fn bring(
     record: usize,
     place: usize,
 ) -> Result<(), Fail> {
+    // Not `ok_or`, since a `Fail` can't be dropped.
     let Some(sent) = cast.air.get(record.saturating_sub(1)) else {
         return Err(Fail::new("no such record"));
     };
@@ -66,8 +67,14 @@ fn one_of_two_believes(rt: HostRuntime) -> Result<(), Fail> {
     bring(heap, &mut cast, 20, 1, 2)?;
     bring(heap, &mut cast, 21, 2, 0)?;
     let p = Parameters::new(10, 1, 2, 4)?;
-    let all = fates(heap, p, cast.said.as_slice(), cast.events.as_slice(), 3)?;
-    let v = verdict(of_message(all.as_slice(), 3, 1));
+    let play = Play {
+        parameters: p,
+        said: cast.said.as_slice(),
+        events: cast.events.as_slice(),
+        receivers: 3,
+    };
+    let fates = play.fates(heap)?;
+    let v = verdict(fates.of_message(1));
     assert!(rt; v.reached == 2);
     assert!(rt; v.believed == 1);
     assert!(rt; v.no_key == 1);

@@ -1,5 +1,7 @@
 -- The formats, over lists of numbers.
-use Rattle.std.specs.Prelude.{ℕ, ◌+◌, ◌/◌, ◌%◌, Bool, cond, ◌&&◌, List, ◌∷◌, ◌++◌, length, take, drop, Some, None, Option, ◌==◌, nat_le, slice_index}
+use Rattle.std.specs.Prelude.{◌≡◌, ℕ, ◌+◌, ◌/◌, ◌%◌, Bool, cond, ◌&&◌, List, ◌∷◌, ◌++◌, length, take, drop, Some, None, Option, ◌==◌, nat_le, slice_index}
+use Rattle.timing.specs.declared.refusal.Refusal.{Refusal}
+use Rattle.timing.specs.declared.refusal.Refusal.TheVariants.{Malformed}
 use Rattle.model.specs.Receiver.{Said, Message, Event, heard, disclosed, message_bytes}
 use Rattle.wire.specs.Bytes.{two, two_at, eight, eight_at}
 
@@ -79,3 +81,7 @@ delivery_encoded s = said_bytes 16 s
 
 abbrev pub read_delivery : List ℕ → Option Said
 read_delivery b = cond (has_form 16 5 b) (Some (said_in b)) None
+
+-- bytes that are read as nothing are malformed
+abbrev pub Unread : {A : Type 0} → Option A → Refusal → Type 0
+Unread o e = (e ≡ Malformed) × (o ≡ None)

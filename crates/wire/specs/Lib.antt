@@ -1,8 +1,10 @@
 pub mod Bytes
+pub mod Kinds
 pub mod Formats
 pub mod Setup
 pub mod Fits
 pub mod Values
+pub mod Written
 pub mod Air
 pub mod Settings
 pub mod Laws

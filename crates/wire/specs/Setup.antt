@@ -11,6 +11,9 @@ pub record Setup : Type 0 where
   pub numbers : Params
   pub commitment : List ℕ
 
+abbrev pub setup : (start : ℕ) → Params → (commitment : List ℕ) → Setup
+setup d n k = record { start = d; numbers = n; commitment = k }
+
 abbrev pub settings_encoded : Setup → List ℕ
 settings_encoded s =
     eight s.start ++ (two s.numbers.ticks ++ (s.numbers.delay ∷ (two s.numbers.error ++ (two s.numbers.last ++ s.commitment))))

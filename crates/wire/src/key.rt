@@ -7,7 +7,7 @@ ghost use Rattle.wire.specs.Fits.{KeyFits};
 ghost use Rattle.wire.specs.Formats.{key_part, key_encoded};
 ghost use Rattle.wire.specs.Values.{key_of};
 
-use crate::bytes;
+use crate::kind::Kind;
 use timing::parameters::Parameters;
 use timing::refusal::Refusal;
 
@@ -33,7 +33,7 @@ impl DisclosedKey<'_> {
     pub fn in_range(self, p: Parameters) -> Result<(), Refusal>
         ensures { result ≡ (if in_chain (parameters_of p) self.entry.interval then Ok tt else Err OutOfRange) }
     {
-        if self.interval == 0 || self.interval > p.last {
+        if !p.has_interval(self.interval) {
             return Err(Refusal::OutOfRange);
         }
         Ok(())
@@ -44,13 +44,9 @@ impl DisclosedKey<'_> {
 pub(crate) fn read_part(b: &[u8]) -> Result<DisclosedKey<'_>, Refusal>
     ensures { MatchResult result (λ k. (b.now ≡ key_part (key_of k)) × KeyFits (key_of k)) (λ e. (e ≡ Malformed) × (length b.now ≢ 34)) }
 {
-    let [high, low, key @ ..] = b else {
-        return Err(Refusal::Malformed);
-    };
-    let Ok(key) = <&[u8; 32]>::try_from(key) else {
-        return Err(Refusal::Malformed);
-    };
-    let interval = bytes::number(*high, *low);
+    let (interval, key) = b.split_first_chunk().ok_or(Refusal::Malformed)?;
+    let key = <&[u8; 32]>::try_from(key).map_err(|_| Refusal::Malformed)?;
+    let interval = u16::from_be_bytes(*interval);
     Ok(DisclosedKey { interval, key })
 }
 
@@ -58,10 +54,10 @@ pub(crate) fn read_part(b: &[u8]) -> Result<DisclosedKey<'_>, Refusal>
 pub fn write(k: DisclosedKey<'_>) -> [u8; 35]
     ensures { result ≡ key_encoded (key_of k.entry) }
 {
-    let key = k.key;
+    let DisclosedKey { interval, key } = k;
     let mut out = [0; 35];
-    bytes::put(&mut out, 0, &[2]);
-    bytes::put(&mut out, 1, &bytes::two_bytes(k.interval));
-    bytes::put(&mut out, 3, key);
+    out[0] = u8::from(Kind::Key);
+    out[1..3].copy_from_slice(&interval.to_be_bytes());
+    out[3..].copy_from_slice(key);
     out
 }

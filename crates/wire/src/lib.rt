@@ -2,10 +2,10 @@
 #![tactic(auto)]
 
 pub mod air;
-mod bytes;
 pub mod clock;
 pub mod delivery;
 pub mod key;
+mod kind;
 pub mod laws;
 pub mod message;
 pub mod said;

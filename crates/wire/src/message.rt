@@ -3,14 +3,15 @@ ghost use Rattle.std.specs.Prelude.{◌≡◌, false, ◌&&◌, leb, length, if�
 ghost use Rattle.timing.specs.Time.{parameters_of};
 ghost use Rattle.timing.specs.declared.refusal.Refusal.TheVariants.{Malformed, OutOfRange};
 ghost use Rattle.model.specs.Receiver.{in_chain, message_bytes};
-ghost use Rattle.wire.specs.Bytes.{over};
 ghost use Rattle.wire.specs.Fits.{PacketFits};
 ghost use Rattle.wire.specs.Formats.{has_form, message_encoded, packet};
 ghost use Rattle.wire.specs.Values.{said_of, key_of, packet_of};
+ghost use Rattle.wire.specs.Written.{written, written_over};
 
 use crate::key::DisclosedKey;
+use crate::kind::Kind;
 use crate::said::Said;
-use crate::{bytes, key, said};
+use crate::{key, said};
 use timing::parameters::Parameters;
 use timing::refusal::Refusal;
 
@@ -28,7 +29,7 @@ impl Message<'_> {
     pub fn in_range(self, p: Parameters) -> Result<(), Refusal>
         ensures { result ≡ (if in_chain (parameters_of p) self.entry.said.interval && nat_le self.entry.said.index 63 then Ok tt else Err OutOfRange) }
     {
-        if self.said.interval == 0 || self.said.interval > p.last || self.said.index > 63 {
+        if !p.has_interval(self.said.interval) || self.said.index > 63 {
             return Err(Refusal::OutOfRange);
         }
         Ok(())
@@ -38,15 +39,9 @@ impl Message<'_> {
 pub(crate) fn read(b: &[u8]) -> Result<Message<'_>, Refusal>
     ensures { MatchResult result (λ m. (b.now ≡ message_encoded (packet_of m)) × (PacketFits (packet_of m) × (m.under_tag.now ≡ message_bytes (said_of m.said)))) (λ e. (e ≡ Malformed) × (has_form 1 55 b.now ≡ false)) }
 {
-    let Ok((said, rest)) = said::split(1, b) else {
-        return Err(Refusal::Malformed);
-    };
-    let Some((tag, rest)) = rest.split_first_chunk::<16>() else {
-        return Err(Refusal::Malformed);
-    };
-    let Ok(disclosed) = key::read_part(rest) else {
-        return Err(Refusal::Malformed);
-    };
+    let (said, rest) = said::split(Kind::Message, b)?;
+    let (tag, rest) = rest.split_first_chunk().ok_or(Refusal::Malformed)?;
+    let disclosed = key::read_part(rest)?;
     Ok(Message {
         said,
         under_tag: &b[0..5 + said.text.len()],
@@ -57,10 +52,10 @@ pub(crate) fn read(b: &[u8]) -> Result<Message<'_>, Refusal>
 
 // The bytes that the tag of a message is over, at the front of the memory, and how many.
 pub fn write_under_tag(said: Said<'_>, out: &mut [u8; 256]) -> Result<usize, Refusal>
-    ensures answer { result ≡ (if leb (length said.entry.text.now) 200 then Ok (length (message_bytes (said_of said.entry))) else Err Malformed) }
-    ensures memory { out.new ≡ (if leb (length said.entry.text.now) 200 then over (message_bytes (said_of said.entry)) out.old else out.old) }
+    ensures answer { result ≡ written (said_of said.entry) (message_bytes (said_of said.entry)) }
+    ensures memory { out.new ≡ written_over (said_of said.entry) (message_bytes (said_of said.entry)) out.old }
 {
-    said::write(1, said, out)
+    said::write(Kind::Message, said, out)
 }
 
 // A message, at the front of the memory, and how many bytes it has. A text above 200 bytes is refused.
@@ -70,15 +65,13 @@ pub fn write(
     disclosed: DisclosedKey<'_>,
     out: &mut [u8; 256],
 ) -> Result<usize, Refusal>
-    ensures answer { result ≡ (if leb (length said.entry.text.now) 200 then Ok (length (message_encoded (packet (said_of said.entry) tag.now (key_of disclosed.entry)))) else Err Malformed) }
-    ensures memory { out.new ≡ (if leb (length said.entry.text.now) 200 then over (message_encoded (packet (said_of said.entry) tag.now (key_of disclosed.entry))) out.old else out.old) }
+    ensures answer { result ≡ written (said_of said.entry) (message_encoded (packet (said_of said.entry) tag.now (key_of disclosed.entry))) }
+    ensures memory { out.new ≡ written_over (said_of said.entry) (message_encoded (packet (said_of said.entry) tag.now (key_of disclosed.entry))) out.old }
 {
-    let Ok(count) = said::write(1, said, out) else {
-        return Err(Refusal::Malformed);
-    };
-    let key = disclosed.key;
-    bytes::put(out, count, tag);
-    bytes::put(out, count + 16, &bytes::two_bytes(disclosed.interval));
-    bytes::put(out, count + 18, key);
+    let count = said::write(Kind::Message, said, out)?;
+    let DisclosedKey { interval, key } = disclosed;
+    out[count..count + 16].copy_from_slice(tag);
+    out[count + 16..count + 18].copy_from_slice(&interval.to_be_bytes());
+    out[count + 18..count + 50].copy_from_slice(key);
     Ok(count + 50)
 }

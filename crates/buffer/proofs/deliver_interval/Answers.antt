@@ -1,69 +1,56 @@
-use Rattle.std.proofs.Common.{◌≡◌, ℕ, ◌+◌, ◌<◌, ◌≤◌, length, get_or, take, ap, ◌∙◌, arith}
-use Rattle.std.proofs.lemmas.List.{append-nil, get_or_default}
-use Rattle.buffer.specs.declared.message.Buffered.{Buffered}
-use Rattle.std.proofs.lemmas.Bool.{lt-ltb, eq-eqb, ne_eqb, cond-true, and_left}
-use Rattle.sha256.specs.Hmac.{hmac}
+use Rattle.std.proofs.Common.{◌≡◌, ℕ, ◌<◌, ◌≤◌, length, take, sym, ap, ◌∙◌, arith}
+use Rattle.std.proofs.lemmas.Bool.{lt-ltb, cond-true}
+use Rattle.std.specs.Slice.Iter.{iter_rest}
+use Rattle.std.specs.Iterator.Adapters.{zip_first, zip_second}
 use Rattle.model.specs.Receiver.{of_interval}
-use Rattle.keychain.specs.Chain.{absent_key}
-use Rattle.buffer.specs.Buffers.{messages_in, messages_of, saids_of}
-use Rattle.buffer.proofs.Lists.{messages_none, of_none, count_more}
-use Rattle.buffer.proofs.Order.{right_none, of_first, said_yes, said_no, said_not}
+use Rattle.buffer.specs.Buffers.{messages_of}
+use Rattle.buffer.proofs.Order.{of_take}
+use Rattle.buffer.proofs.Part.{part_none, part_other, part_room, part_wrong, part_right, turned, all_met}
 use Rattle.buffer.proofs.deliver_interval.Goals as goal
-use Rattle.buffer.proofs.deliver_interval.Goals.{then-buffer-b+then-is_right, then-buffer-b+else-is_right, else-buffer-b}
 
-pub loop-b-init : goal.loop-b-init
-loop-b-init c = (omega arith, rw (messages_none, of_none), λ k o. rw (messages_none, right_none, append-nil))
+pub loop-m-init : goal.loop-m-init
+loop-m-init c = part_none c.args.interval c.args.buffer.now c.args.keys.now c.args.out.now
 
-pub loop-b-preserved : goal.loop-b-preserved
-loop-b-preserved c =
-    let ks = c.args.buffer.now.messages in
-    let b = c.loop-b.b in
-    let i = c.args.interval in
-    let d = c.index-buffer-b.result in
-    let x = get_or ks b d in
-    let h : b < length ks = omega (arith, c.args.buffer.now.sized, c.args.buffer.now.few) in
-    let n = count_more i ks b d h in
-    let up = of_first i (b + 1) c.args.buffer.now.len ks (omega arith) in
-    elim c.if-buffer-b.branch [
-      | then-buffer-b+then-is_right w ↦
-          let t = eq-eqb x.numbers.interval i w.if-buffer-b.true in
-          let e = w.index-buffer-b-then-buffer-b.result in
-          let is = ap (λ (k : Buffered). k.numbers.interval) (get_or_default ks b e d h) ∙ w.if-buffer-b.true in
-          let te = eq-eqb (get_or ks b e).numbers.interval i is in
-          let n1 : of_interval i (messages_in (take (b + 1) ks)) ≡ of_interval i (messages_in (take b ks)) + 1 = rw (n, t) in
-          let room : c.loop-b.out.len < 64 = omega (arith, n1, up, c.loop-b.invariant.0, c.requires) in
-          let l = lt-ltb c.loop-b.out.len 64 room in
-          let count = w.push.ensures.count ∙ cond-true {A = ℕ} _ _ _ l in
-          let messages = w.push.ensures.messages ∙ cond-true _ _ _ l in (
-            rw w.out-is (omega (arith, count, n1, c.loop-b.invariant.0)),
-            rw w.tags-is (omega (arith, n1, c.loop-b.invariant.1)),
-            λ k o. rw w.out-is (said_yes hmac (get_or c.args.keys.now b absent_key).bytes k i ks b e (saids_of c.args.out.now) (messages_of c.loop-b.out) _ w.is_right.result h te (o b e (omega arith) is) w.is_right.ensures w.if-is_right.true messages (c.loop-b.invariant.2 k o)),
-          )
-      | then-buffer-b+else-is_right w ↦
-          let t = eq-eqb x.numbers.interval i w.if-buffer-b.true in
-          let n1 : of_interval i (messages_in (take (b + 1) ks)) ≡ of_interval i (messages_in (take b ks)) + 1 = rw (n, t) in
-          let e = w.index-buffer-b-then-buffer-b.result in
-          let is = ap (λ (k : Buffered). k.numbers.interval) (get_or_default ks b e d h) ∙ w.if-buffer-b.true in (
-            rw w.out-is (omega (arith, n, c.loop-b.invariant.0)),
-            rw w.tags-is (omega (arith, n1, c.loop-b.invariant.1)),
-            λ k o. rw w.out-is (said_not hmac (get_or c.args.keys.now b absent_key).bytes k i ks b e (saids_of c.args.out.now) (messages_of c.loop-b.out) w.is_right.result h (o b e (omega arith) is) w.is_right.ensures w.if-is_right.false (c.loop-b.invariant.2 k o)),
-          )
-      | else-buffer-b w ↦
-          let f = ne_eqb x.numbers.interval i w.if-buffer-b.false in
-          let n0 : of_interval i (messages_in (take (b + 1) ks)) ≡ of_interval i (messages_in (take b ks)) + 0 = rw (n, f) in (
-            rw w.out-is (omega (arith, n, c.loop-b.invariant.0)),
-            rw w.tags-is (omega (arith, n0, c.loop-b.invariant.1)),
-            λ k o. rw w.out-is (said_no hmac k i ks b d (saids_of c.args.out.now) (messages_of c.loop-b.out) h (and_left _ _ (ne_eqb x.numbers.interval i w.if-buffer-b.false)) (c.loop-b.invariant.2 k o)),
-          )
-    ]
+pub loop-m-preserved : goal.loop-m-preserved
+loop-m-preserved c =
+    let s = c.into_iter-m-iterator.result in
+    let first : iter_rest (zip_first s) ≡ take c.args.buffer.now.len c.args.buffer.now.messages = cc in
+    let second : iter_rest (zip_second s) ≡ c.args.keys.now = ap (λ z. iter_rest (zip_second z)) c.into_iter-m-iterator.ensures.into_iter_gives ∙ c.zip-m-items.ensures.second.0 in
+    let t = turned c.args.buffer.now c.args.keys.now c.loop-m.yielded s c.loop-m.m-iterator c.next.new.self c.next.result first second c.loop-m.yielded_by (c.in-Some.m, c.in-Some.key) c.in-Some.is c.next.ensures.steps in
+    part_other _ t.more c.loop-m.invariant c.if-m-interval.false
 
-pub returns : goal.returns
-returns c =
-    let e : c.loop-b.b ≡ c.args.buffer.now.len = omega arith in
-    record { count = rw (← e) c.loop-b.invariant.0; tags = rw (← e) c.loop-b.invariant.1; messages = λ k o. rw (← e) (c.loop-b.invariant.2 k o) }
+pub loop-m-preserved-else-is_right : goal.loop-m-preserved-else-is_right
+loop-m-preserved-else-is_right c =
+    let s = c.into_iter-m-iterator.result in
+    let first : iter_rest (zip_first s) ≡ take c.args.buffer.now.len c.args.buffer.now.messages = cc in
+    let second : iter_rest (zip_second s) ≡ c.args.keys.now = ap (λ z. iter_rest (zip_second z)) c.into_iter-m-iterator.ensures.into_iter_gives ∙ c.zip-m-items.ensures.second.0 in
+    let t = turned c.args.buffer.now c.args.keys.now c.loop-m.yielded s c.loop-m.m-iterator c.next.new.self c.next.result first second c.loop-m.yielded_by (c.in-Some.m, c.in-Some.key) c.in-Some.is c.next.ensures.steps in
+    part_wrong _ t.more c.loop-m.invariant c.in-Some.key.now.bytes (λ k. t.of_place c.args.interval k c.if-m-interval.true) c.if-m-interval.true (sym c.is_right.ensures ∙ c.if-is_right.false)
+
+pub loop-m-preserved-then-is_right : goal.loop-m-preserved-then-is_right
+loop-m-preserved-then-is_right c =
+    let s = c.into_iter-m-iterator.result in
+    let first : iter_rest (zip_first s) ≡ take c.args.buffer.now.len c.args.buffer.now.messages = cc in
+    let second : iter_rest (zip_second s) ≡ c.args.keys.now = ap (λ z. iter_rest (zip_second z)) c.into_iter-m-iterator.ensures.into_iter_gives ∙ c.zip-m-items.ensures.second.0 in
+    let t = turned c.args.buffer.now c.args.keys.now c.loop-m.yielded s c.loop-m.m-iterator c.next.new.self c.next.result first second c.loop-m.yielded_by (c.in-Some.m, c.in-Some.key) c.in-Some.is c.next.ensures.steps in
+    let ws = messages_of c.args.buffer.now in
+    let room : c.loop-m.out.len < 64 = part_room _ t.more c.loop-m.invariant (of_interval c.args.interval ws) c.if-m-interval.true (of_take c.args.interval _ ws) c.requires in
+    let l = lt-ltb c.loop-m.out.len 64 room in
+    part_right _ t.more c.loop-m.invariant c.in-Some.key.now.bytes (λ k. t.of_place c.args.interval k c.if-m-interval.true) c.if-m-interval.true c.push.new.self
+    (c.push.ensures.count ∙ cond-true {A = ℕ} _ _ _ l)
+    (c.push.ensures.messages ∙ cond-true _ _ _ l)
+    (sym c.is_right.ensures ∙ c.if-is_right.true)
 
 pub overflow_add-tags : goal.overflow_add-tags
 overflow_add-tags c =
-    let up = of_first c.args.interval c.loop-b.b c.args.buffer.now.len c.args.buffer.now.messages (omega arith) in
-    let m : c.loop-b.tags ≤ 64 = omega (arith, up, c.requires, c.loop-b.invariant.1) in
+    let m : c.loop-m.tags ≤ 64 = omega (arith, of_take c.args.interval (length c.loop-m.yielded) (messages_of c.args.buffer.now), c.requires, c.loop-m.invariant.tags_are) in
     omega (arith, m)
+
+pub returns : goal.returns
+returns c =
+    let s = c.into_iter-m-iterator.result in
+    let first : iter_rest (zip_first s) ≡ take c.args.buffer.now.len c.args.buffer.now.messages = cc in
+    let second : iter_rest (zip_second s) ≡ c.args.keys.now = ap (λ z. iter_rest (zip_second z)) c.into_iter-m-iterator.ensures.into_iter_gives ∙ c.zip-m-items.ensures.second.0 in
+    let all = all_met c.args.buffer.now c.args.keys.now c.loop-m.yielded s c.loop-m.m-iterator c.next.new.self c.next.result first second c.loop-m.yielded_by c.told-keys c.in-None.is c.next.ensures.steps in
+    let p = c.loop-m.invariant in
+    record { count = rw all at p.count; tags = rw all at p.tags_are; messages = λ k o. rw all at (p.saids_are k o) }

@@ -1,13 +1,11 @@
-use Rattle.std.proofs.Common.{sym, arith}
-use Rattle.keychain.proofs.Chains.{not_after, too_far, collected_none}
+use Rattle.keychain.proofs.Chains.{collected_none, steps_ahead}
 use Rattle.keychain.proofs.walk.Goals as goal
+use Rattle.keychain.proofs.walk.Goals.{in-Ok, in-Err}
 
-pub returns-then-interval-newest : goal.returns-then-interval-newest
-returns-then-interval-newest c =
-    let e = not_after c.args.interval c.args.newest c.args.key.bytes c.args.had.bytes c.if-interval-newest.true in
-    record { outcome = e.0; steps = sym e.1; keys = collected_none _ _ _ _ e.1 c.no_keys.ensures }
-
-pub returns-then-ahead-gt-MOST_STEPS : goal.returns-then-ahead-gt-MOST_STEPS
-returns-then-ahead-gt-MOST_STEPS c =
-    let e = too_far c.args.interval c.args.newest c.args.key.bytes c.args.had.bytes (omega arith) in
-    record { outcome = e.0; steps = sym e.1; keys = collected_none _ _ _ _ e.1 c.no_keys-then-ahead-gt-MOST_STEPS.ensures }
+pub returns-clause-keys : goal.returns-clause-keys
+returns-clause-keys c =
+    let s = steps_ahead c.args.interval c.args.newest _ c.ahead_of-ahead.ensures in
+    elim c.match-ahead.branch [
+      | in-Ok w ↦ rw (s, w.in-Ok.is, w.keys-is) w.walk_down-outcome.ensures.keys
+      | in-Err w ↦ rw (s, w.in-Err.is) (collected_none _ _ _ w.keys-is)
+    ]

@@ -1,20 +1,16 @@
-use Rattle.std.proofs.Common.{◌≡◌, ◌+◌, ◌*◌, refl, arith}
+use Rattle.std.proofs.Common.{◌≡◌, refl, arith}
 use Rattle.sha256.specs.Sha256.{rounds, expanded, compress}
 use Rattle.sha256.proofs.compression.Goals as goal
 
-pub loop-j-init : goal.loop-j-init
+pub loop-v-init : goal.loop-v-init
 unfolding rounds expanded
-loop-j-init c = record { hash_is = refl; window_is = c.block_words-window.ensures }
-
-pub loop-j-preserved : goal.loop-j-preserved
-loop-j-preserved c =
-    let e : 16 * (c.loop-j.j + 1) ≡ 16 * c.loop-j.j + 16 = omega arith in
-    rw e (c.sixteen_turns-next.ensures c.args.block.now c.args.s c.loop-j.invariant)
+loop-v-init c = record { at_most = omega arith; whole = refl; stands = record { hash_is = refl; window_is = c.block_words.ensures } }
 
 pub returns : goal.returns
 unfolding compress
 returns c =
-    let e : 16 * c.loop-j.j ≡ 48 = omega arith in
-    let a = rw e at c.loop-j.invariant in
-    let r = c.last_rounds.ensures c.args.block.now c.args.s a in
+    let e : c.four_turns-last.result.round ≡ 64 = omega arith in
+    let a2 = c.four_turns-2.ensures.at _ _ c.loop-v.invariant.stands in
+    let a = c.four_turns-last.ensures.at _ _ (c.four_turns-4.ensures.at _ _ (c.four_turns-3.ensures.at _ _ a2)) in
+    let h = rw e at a.hash_is in
     cc

@@ -1,6 +1,5 @@
-use Rattle.std.proofs.Common.{◌≡◌, length, take}
-use Rattle.sha256.specs.Hmac.{xor_pad}
+use Rattle.std.proofs.Common.{◌≡◌, ◌++◌, map, take, drop, bit_xor}
 use Rattle.sha256.proofs.xor_pad.Given as goal
 
-abbrev pub invariant-loop-i : goal.invariant-loop-i
-invariant-loop-i l = (length l.out ≡ 64) × (take l.i l.out ≡ xor_pad l.pad (take l.i l.block))
+abbrev pub invariant-loop-x : goal.invariant-loop-x
+invariant-loop-x l = l.x-items ≡ map (λ x. bit_xor x l.pad) (take l.x-index l.block) ++ drop l.x-index l.block

@@ -1,14 +1,13 @@
-use Rattle.std.proofs.Common.{◌<◌, length, refl, arith}
-use Rattle.segments.proofs.Keys.{descent_one, descent_more, descent_fewer}
+use Rattle.std.proofs.Common.{◌≡◌, ◌+◌, arith}
+use Rattle.keychain.specs.Chain.{key_down}
+use Rattle.keychain.proofs.Chains.{down_more}
+use Rattle.segments.proofs.Keys.{below_keys}
 use Rattle.segments.proofs.descent.descend.Goals as goal
 
-pub loop-i-init : goal.loop-i-init
-loop-i-init c = descent_one c.args.keys.now
-
-pub loop-i-preserved : goal.loop-i-preserved
-loop-i-preserved c =
-    let h : c.loop-i.i < length c.loop-i.keys = omega arith in
-    descent_more c.loop-i.i _ c.loop-i.keys c.previous.result (omega arith) h c.loop-i.invariant c.previous.ensures
-
-pub returns : goal.returns
-returns c = record { written = descent_fewer c.loop-i.i _ _ _ (omega arith) c.loop-i.invariant; worked = refl }
+pub loop-place-preserved : goal.loop-place-preserved
+loop-place-preserved c =
+    let i = c.loop-place.place-index in
+    let k = c.args.top.bytes in
+    let w = c.loop-place.invariant in
+    let here : c.previous-key.result.bytes ≡ key_down (i + 1) k = cc (w.here, down_more i k) in
+    record { here = here; written = below_keys i k c.loop-place.below c.previous-key.result (omega arith) here w.written }

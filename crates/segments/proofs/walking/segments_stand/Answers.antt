@@ -1,5 +1,5 @@
-use Rattle.segments.proofs.Work.{few, once, enough}
+use Rattle.segments.proofs.Work.{once}
 use Rattle.segments.proofs.walking.segments_stand.Goals as goal
 
-pub returns : goal.returns
-returns c = record { few = few; once = once; enough = enough }
+pub returns-clause-once : goal.returns-clause-once
+returns-clause-once c = once

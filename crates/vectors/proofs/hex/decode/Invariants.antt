@@ -1,6 +1,6 @@
-use Rattle.std.proofs.Common.{◌≡◌, Some, vec_items}
-use Rattle.vectors.specs.Hex.{spelled}
+use Rattle.std.proofs.Common.{◌≡◌, map, Some, take}
+use Rattle.vectors.specs.Hex.{byte_value}
 use Rattle.vectors.proofs.hex.decode.Given as goal
 
-abbrev pub invariant-loop-i : goal.invariant-loop-i
-invariant-loop-i l = Some (vec_items l.bytes) ≡ spelled l.i l.text
+abbrev pub invariant-loop-high : goal.invariant-loop-high
+invariant-loop-high l = map Some l.bytes.items ≡ map byte_value (take l.high-index l.pairs)

@@ -1,8 +1,10 @@
-use Rattle.std.proofs.Common.{length, ap, ◌∙◌, arith}
+use Rattle.std.proofs.Common.{◌≡◌, length, arith, rules, ◌∙◌}
 use Rattle.wire.proofs.Whole.{key_part_whole}
 use Rattle.wire.proofs.key.read_part.Goals as goal
 
 pub returns : goal.returns
 returns c =
-    let h = c.in-Ok.ensures.1 in
-    (key_part_whole c.args.b.now _ _ (λ i. omega (arith, c.type_inv.b i)) (omega arith) c.number-interval.ensures h.same, record { interval = c.number-interval.type_inv; key = ap length h.same ∙ h.long })
+    let b = c.args.b.now in
+    let s = rw c.in_ok-interval.ensures.ok_part at c.split_first_chunk.ensures.cases in
+    let k : (c.in_ok-key.key.now ≡ c.in_ok-interval.key.now) × (length c.in_ok-key.key.now ≡ 32) = search rules in
+    (key_part_whole b _ _ _ (λ i. omega (arith, c.type_inv.b i)) (omega (arith, s.2)) s.0 c.from_be_bytes-interval.ensures (k.0 ∙ s.1), record { interval = c.from_be_bytes-interval.type_inv; key = k.1 })

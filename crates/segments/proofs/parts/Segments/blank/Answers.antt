@@ -1,18 +1,16 @@
-use Rattle.std.proofs.Common.{sym, ◌∙◌, arith}
+use Rattle.std.proofs.Common.{List, replicate, refl, arith}
+use Rattle.keychain.specs.declared.key.Key.{Key}
+use Rattle.keychain.specs.Chain.{zero_key}
 use Rattle.segments.proofs.Keys.{one_key, one_part}
 use Rattle.segments.proofs.parts.Segments.blank.Goals as goal
 
-pub invariant_of-result : goal.invariant_of-result
-invariant_of-result c =
-    let last = c.smallest.result.last in
-    let ends = c.no_keys.result in
-    let keys = c.no_keys-2.result in
-    record {
-      ends_long = c.no_keys.ensures.long;
-      keys_long = c.no_keys-2.ensures.long;
-      tail_long = c.no_tail.ensures;
-      placed = omega arith;
-      ends_are = λ b h. one_key last b ends c.smallest.ensures h;
-      keys_are = λ j h. one_part last j keys ends c.smallest.ensures h (c.no_keys-2.ensures.first ∙ sym c.no_keys.ensures.first);
-      tail_is = λ j h. absurd (omega arith);
-    }
+zeros : List Key
+zeros = replicate 128 zero_key
+
+pub invariant_of-result-2-clause-ends_are : goal.invariant_of-result-2-clause-ends_are
+unfolding zeros
+invariant_of-result-2-clause-ends_are c b h = one_key 1 b zeros refl h
+
+pub invariant_of-result-2-clause-keys_are : goal.invariant_of-result-2-clause-keys_are
+unfolding zeros
+invariant_of-result-2-clause-keys_are c j h = one_part 1 j zeros zeros refl (omega arith) refl

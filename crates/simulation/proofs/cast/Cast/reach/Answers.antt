@@ -1,8 +1,7 @@
-use Rattle.std.proofs.Common.{is_ok, refl, ap, ◌∙◌}
-use Rattle.std.proofs.ResultArms.{chosen}
+use Rattle.std.proofs.Common.{refl, ap, ◌∙◌}
 use Rattle.hearings.specs.Saids.{sayings_of}
 use Rattle.hearings.specs.Sents.{said_on}
-use Rattle.simulation.proofs.Sends.{brings_by}
+use Rattle.simulation.proofs.Deeds.{brings_by}
 use Rattle.simulation.proofs.cast.Cast.reach.Goals as goal
 
 pub returns : goal.returns
@@ -10,7 +9,7 @@ returns c =
     let said = ap sayings_of c.as_slice-2.ensures.value ∙ c.in_ok-said.ensures ∙ ap said_on c.as_slice.ensures.value in
     record {
       hearings = c.in_ok-hearings.hearings;
-      event = chosen _ _ _ _ c.push.ensures.items (ap is_ok c.in_ok-push.was);
-      heard = brings_by _ _ c.args.to c.args.bytes.now _ _ _ said c.as_mut_slice-receivers.ensures.value c.in_ok-hearings.ensures.heard;
-      air_stays = refl;
+      brought = refl;
+      heard = brings_by _ _ c.args.to c.args.bytes.now _ _ _ said c.as_mut_slice.ensures.value c.in_ok-hearings.ensures.heard;
+      stays = record { air = refl; events = refl };
     }

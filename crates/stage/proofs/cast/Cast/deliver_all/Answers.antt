@@ -1,15 +1,10 @@
-use Rattle.std.proofs.Common.{◌<◌, length, arith}
-use Rattle.stage.proofs.Scened.{none_delivered, more_delivered, all_delivered}
+use Rattle.std.proofs.Common.{sym, ap}
+use Rattle.stage.specs.Scenes.{scene_of, delivered_all}
+use Rattle.stage.proofs.Scened.{saids_none, more_delivered}
 use Rattle.stage.proofs.cast.Cast.deliver_all.Goals as goal
 
-pub loop-i-init : goal.loop-i-init
-loop-i-init c = none_delivered _ _ c.args.out.now.messages _
+pub loop-m-init : goal.loop-m-init
+loop-m-init c = ap (λ ds. delivered_all c.args.line c.args.receiver ds (scene_of c.args.self.now)) (sym saids_none)
 
-pub loop-i-preserved : goal.loop-i-preserved
-loop-i-preserved c =
-    let out = c.args.out.now in
-    let there : c.loop-i.i < length out.messages = omega (arith, out.few, out.sized, c.loop-i-test.true) in
-    more_delivered _ _ c.loop-i.i out.messages c.index-out-i.result _ _ _ there c.loop-i.invariant c.in_ok-deliver.ensures
-
-pub returns : goal.returns
-returns c = all_delivered _ _ c.loop-i.i c.args.out.now.len c.args.out.now.messages _ _ c.loop-i.auto.i-end c.loop-i-test.false c.loop-i.invariant
+pub loop-m-preserved : goal.loop-m-preserved
+loop-m-preserved c = more_delivered _ _ c.loop-m.m-index _ c.m-item.result _ _ _ c.loop-m-test.true c.m-item.is c.loop-m.invariant c.in_ok-deliver.ensures

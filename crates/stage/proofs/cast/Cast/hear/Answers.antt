@@ -1,27 +1,33 @@
-use Rattle.std.proofs.Common.{ap, ◌∙◌}
+use Rattle.std.proofs.Common.{◌≡◌, ◌+◌, ◌<◌, length, refl, sym, ap, ◌∙◌, arith}
+use Rattle.std.proofs.lemmas.Result.{on_ok_weaker}
 use Rattle.buffer.specs.Buffers.{messages_in}
-use Rattle.wire.specs.Formats.{air_event}
 use Rattle.receiver.specs.Calls.{from_air}
-use Rattle.receiver.specs.declared.state.Receiver.{Receiver}
+use Rattle.wire.specs.Formats.{air_event}
+use Rattle.stage.specs.declared.event.Deed.TheVariants.{Heard}
 use Rattle.stage.specs.Saids.{which_message}
-use Rattle.stage.specs.Scenes.{scene_of}
-use Rattle.stage.proofs.Scened.{is_there_lem, not_there, site_at_lem, site_moved, heard_none, heard_one, heard_deed, heard_delivers, same_element}
+use Rattle.stage.specs.Scenes.{scene_of, site_of, heard_by, hearing_of, named}
+use Rattle.stage.proofs.Scened.{there, absent, at_none, handed, named_meant, heard_one}
 use Rattle.stage.proofs.cast.Cast.hear.Goals as goal
 
-pub returns-then-place-len : goal.returns-then-place-len
-returns-then-place-len c = heard_none _ _ _ _ (scene_of c.args.self.now) (not_there c.args.self.now.receivers _ _ c.len.ensures c.if-place-len.true)
+pub returns-in_default : goal.returns-in_default
+unfolding heard_by
+returns-in_default c =
+    let rs = c.args.self.now.receivers in
+    at_none c.args.place _ (scene_of c.args.self.now) (absent _ rs.items c.args.place refl (grind (arith, rs.ok.0, c.in_default.ensures.variant.1)))
 
 pub returns : goal.returns
 returns c =
     let s = scene_of c.args.self.now in
-    let r = c.index_mut.result.now in
     let rs = c.args.self.now.receivers in
+    let r = c.in-Some.hearer.now in
+    let n = c.args.place in
     let b = c.args.bytes.now in
-    let e = c.hear_air-answer.ensures in
-    let there = c.if-place-len.false in
-    let site = site_at_lem rs _ _ r c.len.ensures there c.index_mut.ensures.value in
-    let moved = site_moved rs _ _ r c.hear_air-answer.new.r (from_air b) c.len.ensures there c.index_mut.ensures.value e.parameters e.state in
-    let which = c.which_message-message.ensures ∙ ap (λ xs. which_message (messages_in xs) (air_event b)) c.as_slice.ensures.value in
-    let clock = ap (λ (x : Receiver). x.clock) (same_element rs _ _ c.index.result.now r c.len.ensures there c.index.ensures c.index_mut.ensures.value) in
-    heard_one _ _ _ b _ _ s _ (scene_of c.note.new.self) _ (is_there_lem rs _ _ c.len.ensures there) moved c.in_ok-note.ensures
-    (heard_deed _ _ _ _ _ s.said b r c.hear_air-answer.result.outcome site clock which e.outcome) (heard_delivers _ b r _ site e.delivered) c.in_ok-deliver_all.ensures
+    let a = c.hear_air-answer.ensures in
+    let within : n < length rs.items = omega (arith, rs.ok.0, c.in-Some.ensures.variant.0 refl) in
+    let after = handed rs.items n r c.hear_air-answer.new.r (from_air b) a.parameters a.state in
+    let which = c.which_message-message.ensures ∙ ap (λ ms. which_message (messages_in ms) (air_event b)) c.as_slice.ensures.value in
+    let outcome = sym (named_meant c.hear_air-answer.result.outcome) ∙ ap named a.outcome in
+    let deed : Heard (n + 1) r.clock c.args.number c.which_message-message.result c.hear_air-answer.result.outcome ≡ hearing_of (site_of r) (n + 1) c.args.number s.said b = cc (which, outcome) in
+    on_ok_weaker c.deliver_all.result
+    (λ e. e ∙ heard_one c.args.line n c.args.number b _ _ (site_of r) s (scene_of c.note.new.self) _ (there _ rs.items n r refl within c.in-Some.ensures.value) after deed a.delivered c.in_ok-note.ensures)
+    c.deliver_all.ensures

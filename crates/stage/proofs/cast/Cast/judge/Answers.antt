@@ -1,12 +1,14 @@
-use Rattle.stage.specs.Scenes.{scene_of}
-use Rattle.stage.proofs.Scened.{is_there_lem, not_there, site_at_lem, judged_none, judged_one}
+use Rattle.std.proofs.Common.{◌∙◌, arith}
+use Rattle.std.proofs.lemmas.Result.{on_ok_weaker}
+use Rattle.stage.specs.Scenes.{scene_of, judged_by}
+use Rattle.stage.proofs.Scened.{there, absent, at_none, judged_one}
 use Rattle.stage.proofs.cast.Cast.judge.Goals as goal
 
-pub returns-then-place-len : goal.returns-then-place-len
-returns-then-place-len c = judged_none _ _ _ (scene_of c.args.self.now) (not_there c.args.self.now.receivers _ _ c.len.ensures c.if-place-len.true)
+pub returns-in_default : goal.returns-in_default
+unfolding judged_by
+returns-in_default c = at_none c.args.place _ (scene_of c.args.self.now) (absent _ c.deref.result.now c.args.place c.deref.ensures.value (omega (arith, c.in_default.ensures.lookup)))
 
 pub returns : goal.returns
 returns c =
-    let rs = c.args.self.now.receivers in
-    let there = c.if-place-len.false in
-    judged_one _ _ _ (scene_of c.args.self.now) _ c.index-r.result.now _ (is_there_lem rs _ _ c.len.ensures there) (site_at_lem rs _ _ c.index-r.result.now c.len.ensures there c.index-r.ensures) c.judge-judgement.ensures c.in_ok-note.ensures
+    let site = there _ c.deref.result.now c.args.place c.in-Some.r.now c.deref.ensures.value (omega (arith, c.in-Some.ensures.lookup)) c.in-Some.ensures.lookup.1 in
+    on_ok_weaker c.note.result (λ e. e ∙ judged_one c.args.line c.args.place c.args.interval _ _ (scene_of c.args.self.now) site c.judge-judgement.ensures) c.note.ensures

@@ -1,7 +1,0 @@
-use Rattle.std.proofs.Common.{refl}
-use Rattle.buffer.specs.Buffers.{messages_in}
-use Rattle.buffer.proofs.room.Buffer.new.Goals as goal
-
-pub returns : goal.returns
-unfolding messages_in
-returns c = record { count = refl; messages = refl }
