@@ -56,6 +56,7 @@ pub struct Play<'a> {
 impl Play<'_> {
     // For each message that was said, in their order, the fates at all receivers, in their order.
     pub fn fates(self, heap: Global) -> Result<Fates, AllocError>
+        ensures messages { IfOk result (λ t. t.messages ≡ length self.entry.said.now) }
         ensures receivers { IfOk result (λ t. t.receivers ≡ self.entry.receivers) }
         ensures fates { IfOk result (λ t. AreFates (parameters_of self.entry.parameters) (messages_in self.entry.said.now) self.entry.events.now self.entry.receivers t.all.items) }
     {
@@ -127,18 +128,25 @@ impl Fates {
     }
 
     // Those of one message at all receivers; none if there is no such message.
-    // A range and no `chunks_exact`, which takes no rows of no receivers.
     pub fn of_message(&self, message: usize) -> &[Fate]
         ensures { result.now ≡ row_of self.now.receivers message self.now.all.items }
     {
-        let Some(end) = message.checked_mul(self.receivers) else {
-            return &[];
-        };
-        if message < 1 || end > self.all.len() {
-            return &[];
-        }
-        &self.all[end - self.receivers..end]
+        of_message(self.all.as_slice(), self.receivers, message)
     }
+}
+
+// The same of any list in which the fates of each message stand together.
+// A range and no `chunks_exact`, which takes no rows of no receivers.
+pub fn of_message(fates: &[Fate], receivers: usize, message: usize) -> &[Fate]
+    ensures { result.now ≡ row_of receivers message fates.now }
+{
+    let Some(end) = message.checked_mul(receivers) else {
+        return &[];
+    };
+    if message < 1 || end > fates.len() {
+        return &[];
+    }
+    &fates[end - receivers..end]
 }
 
 // Five functions, and no five chains in `verdict`: the check finds a proof of one count in a function, and none of five.
