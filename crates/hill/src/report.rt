@@ -1,8 +1,9 @@
 // What is printed of a play.
+use crate::show::Rows;
 use hearings::event::{Deed, Delivery, Event, Hearing, Sent};
 use receiver::outcome::Outcome;
 use simulation::counts::Counts;
-use std::fmt;
+use std::{fmt, io};
 use timing::refusal::{Refusal, number_of};
 
 // A text with every byte that is not printed as \xHH.
@@ -72,33 +73,28 @@ impl fmt::Display for ComesTo {
     }
 }
 
-fn write_sent<W: fmt::Write>(
-    f: &mut fmt::Formatter<W>,
-    line: u64,
-    number: u64,
-    sent: &Sent,
-) -> fmt::Result {
+fn print_sent(rt: &HostRuntime, line: u64, number: u64, sent: &Sent) -> io::Result<()> {
     match sent {
         Sent::Message { saying, disclosed } => {
             let interval = saying.interval;
             let index = saying.index;
             let text = Text(saying.text.as_slice());
             if *disclosed == 0 {
-                return writeln!(
-                    f,
+                return println!(rt;
                     "{line:>6} {number:>7}         -  message {interval}.{index}, no key: {text}"
                 );
             }
-            writeln!(
-                f,
+            println!(rt;
                 "{line:>6} {number:>7}         -  message {interval}.{index}, key {disclosed}: {text}"
             )
         }
-        Sent::Key { interval } => { writeln!(f, "{line:>6} {number:>7}         -  key {interval}") }
+        Sent::Key { interval } => {
+            println!(rt; "{line:>6} {number:>7}         -  key {interval}")
+        }
     }
 }
 
-fn write_delivery<W: fmt::Write>(f: &mut fmt::Formatter<W>, delivery: &Delivery) -> fmt::Result {
+fn print_delivery(rt: &HostRuntime, delivery: &Delivery) -> io::Result<()> {
     let (said, saying) = match delivery {
         Delivery::Said(saying) => ("said", saying),
         Delivery::NotSaid(saying) => ("NOT SAID", saying),
@@ -106,43 +102,40 @@ fn write_delivery<W: fmt::Write>(f: &mut fmt::Formatter<W>, delivery: &Delivery)
     let interval = saying.interval;
     let index = saying.index;
     let text = Text(saying.text.as_slice());
-    writeln!(
-        f,
-        "                            delivered {interval}.{index}, {said}: {text}"
-    )
+    println!(rt; "                            delivered {interval}.{index}, {said}: {text}")
 }
 
-fn write_hearing<W: fmt::Write>(
-    f: &mut fmt::Formatter<W>,
+fn print_hearing(
+    rt: &HostRuntime,
     line: u64,
     record: Option<u64>,
     hearing: &Hearing,
-) -> fmt::Result {
+) -> io::Result<()> {
     let receiver = hearing.receiver;
     let number = number_of(&hearing.outcome);
     let what = ComesTo(hearing.outcome);
     match record {
-        Some(record) => writeln!(f, "{line:>6} {record:>7} {receiver:>9}  {number} {what}")?,
-        None => writeln!(f, "{line:>6}       - {receiver:>9}  {number} {what}")?,
+        Some(record) => println!(rt; "{line:>6} {record:>7} {receiver:>9}  {number} {what}")?,
+        None => println!(rt; "{line:>6}       - {receiver:>9}  {number} {what}")?,
     }
     for delivery in hearing.deliveries.iter() {
-        write_delivery(f, delivery)?;
+        print_delivery(rt, delivery)?;
     }
     Ok(())
 }
 
-fn write_event<W: fmt::Write>(f: &mut fmt::Formatter<W>, event: &Event) -> fmt::Result {
+fn print_event(rt: &HostRuntime, event: &Event) -> io::Result<()> {
     let line = event.line;
     match &event.deed {
-        Deed::Sent { number, sent } => write_sent(f, line, *number, sent),
+        Deed::Sent { number, sent } => print_sent(rt, line, *number, sent),
         Deed::NotSaid(refusal) => {
             let number = u8::from(*refusal);
             let why = Refused(*refusal);
-            writeln!(f, "{line:>6}       -         -  {number} not said: {why}")
+            println!(rt; "{line:>6}       -         -  {number} not said: {why}")
         }
         Deed::Brought { record, hearings } => {
             for hearing in hearings.iter() {
-                write_hearing(f, line, *record, hearing)?;
+                print_hearing(rt, line, *record, hearing)?;
             }
             Ok(())
         }
@@ -153,11 +146,11 @@ fn write_event<W: fmt::Write>(f: &mut fmt::Formatter<W>, event: &Event) -> fmt::
 #[derive(Drop)]
 pub struct Report(pub Vec<Event>);
 
-impl fmt::Display for Report {
-    fn fmt<W: fmt::Write>(&self, f: &mut fmt::Formatter<W>) -> fmt::Result {
-        writeln!(f, "  line  record  receiver  comes to")?;
+impl Rows for Report {
+    fn print(&self, rt: &HostRuntime) -> io::Result<()> {
+        println!(rt; "  line  record  receiver  comes to")?;
         for event in self.0.iter() {
-            write_event(f, event)?;
+            print_event(rt, event)?;
         }
         let Counts {
             sent,
@@ -167,8 +160,7 @@ impl fmt::Display for Report {
             delivered,
             said,
         } = Counts::of(self.0.as_slice());
-        writeln!(
-            f,
+        println!(rt;
             "  {sent} sent ({not_said} not said), {brought} brought ({refused} refused), {delivered} delivered ({said} said)"
         )
     }

@@ -17,16 +17,19 @@ impl fmt::Display for Judged {
     }
 }
 
+// What a script was played into, in rows. Each is printed by a call of its own, so that it is one write,
+// and stays whole where programs share an output.
+pub trait Rows {
+    fn print(&self, rt: &HostRuntime) -> io::Result<()>;
+}
+
 // What messages come to at receivers.
 #[derive(Drop)]
 pub struct Heard(pub Vec<Arrival>);
 
-impl fmt::Display for Heard {
-    fn fmt<W: fmt::Write>(&self, f: &mut fmt::Formatter<W>) -> fmt::Result {
-        writeln!(
-            f,
-            "  line  interval  receiver                 clock  comes to"
-        )?;
+impl Rows for Heard {
+    fn print(&self, rt: &HostRuntime) -> io::Result<()> {
+        println!(rt; "  line  interval  receiver                 clock  comes to")?;
         for arrival in self.0.iter() {
             let Arrival {
                 line,
@@ -37,24 +40,22 @@ impl fmt::Display for Heard {
             } = *arrival;
             let number = number_of(&judgement);
             let comes_to = Judged(judgement);
-            writeln!(
-                f,
-                "{line:>6} {interval:>9} {receiver:>9} {clock:>21}  {number} {comes_to}"
-            )?;
+            println!(rt; "{line:>6} {interval:>9} {receiver:>9} {clock:>21}  {number} {comes_to}")?;
         }
         Ok(())
     }
 }
 
 // Prints what a script was played into, or its fault with why it is one; whether it was played.
-pub fn show<P: fmt::Display + Drop, W: From<Refusal> + fmt::Display + Drop>(
+pub fn show<P: Rows + Drop, W: From<Refusal> + fmt::Display + Drop>(
     rt: &HostRuntime,
     name: &str,
     played: Result<P, Error>,
 ) -> io::Result<bool> {
     match played {
         Ok(played) => {
-            print!(rt; "{name}\n{played}")?;
+            println!(rt; "{name}")?;
+            played.print(rt)?;
             Ok(true)
         }
         Err(Error::Faulty(Fault { line, refusal })) => {

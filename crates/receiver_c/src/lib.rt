@@ -13,9 +13,9 @@ ghost use Rattle.receiver_c.specs.Made.{made_number, Made, record_length, record
 
 use buffer::room::Buffer;
 use receiver::calls::{hear_air, hear_clock};
+use receiver::outcome;
 use receiver::state::Receiver;
 use std::mem::size_of;
-use timing::refusal::number_of;
 use wire::{delivery, settings};
 
 // size_t tesla_receiver_size(void);
@@ -57,7 +57,7 @@ pub extern "C" fn tesla_receiver_clock(r: &mut Receiver, bytes: &[u8]) -> u8
     ensures state { Became r.old r.new (state_after (params_of r.old) (own_clock bytes.now) (state_of r.old)) }
     ensures number { result ≡ outcome_number (outcome_of (params_of r.old) (own_clock bytes.now) (state_of r.old)) }
 {
-    number_of(&hear_clock(r, bytes))
+    outcome::number(hear_clock(r, bytes))
 }
 
 // Bytes from the air, and what is delivered.
@@ -68,7 +68,7 @@ pub extern "C" fn tesla_receiver_air(r: &mut Receiver, bytes: &[u8], out: &mut B
     ensures number { result ≡ outcome_number (outcome_of (params_of r.old) (from_air bytes.now) (state_of r.old)) }
     ensures delivered { saids_of out.new ≡ delivered_of (params_of r.old) (from_air bytes.now) (state_of r.old) }
 {
-    number_of(&hear_air(r, bytes, out).outcome)
+    outcome::number(hear_air(r, bytes, out).outcome)
 }
 
 // Delivery number i, from 0, as a record of kind 16 at the front of the memory: its length, or 0 if there is none,

@@ -124,10 +124,10 @@ played_is n s [] xs a h = ended_is s.settings s.clocks s.heard s.ended n xs a (s
 played_is n s (l ∷ ls) xs a h =
     on n ls xs (λ t b e. played_is (n + 1) t ls xs b e) (stepped (n + 1) s (line_of (words l))) (λ t e. stepped_is (n + 1) s (line_of (words l)) t a e) (sym (played_line n s l ls) ∙ h)
 
-judged_by_settings : (b : List ℕ) (xs : List Arrival) → playing b ≡ Ok xs → JudgedBySettings xs
+pub judged_by_settings : (b : List ℕ) (xs : List Arrival) → playing b ≡ Ok xs → JudgedBySettings xs
 judged_by_settings b xs h = played_is 0 start (lines_of b) xs (refl, refl, refl) h
 
-judged_where_played : (b : List ℕ) (r : Result (Vec Arrival Global) Error) → Plays r (playing b) → IfOk r (λ v. JudgedBySettings (vec_items v))
+pub judged_where_played : (b : List ℕ) (r : Result (Vec Arrival Global) Error) → Plays r (playing b) → IfOk r (λ v. JudgedBySettings (vec_items v))
 judged_where_played b (Ok v) h = judged_by_settings b (vec_items v) h
 judged_where_played b (Err e) h = tt
 

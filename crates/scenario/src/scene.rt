@@ -11,6 +11,7 @@ use script::command::Command;
 use script::reader::Follow;
 use script::stop::Stop;
 use std::alloc::Global;
+use std::mem;
 use timing::parameters::Parameters;
 use timing::refusal::Refusal;
 
@@ -26,46 +27,51 @@ pub enum Scene {
 }
 
 impl Scene {
+    ghost use Rattle.script.specs.Reading.{in_place};
     ghost use Rattle.scenario.specs.States.{state_of, with_receivers, obeyed, messaged};
 
     // A message of this interval reaches every receiver.
-    fn message(mut receivers: Receivers, line: u64, interval: u64) -> Result<Scene, Stop>
-        ensures { Gives state_of result (messaged line (with_receivers receivers false) interval) }
+    fn message(receivers: &mut Receivers, line: u64, interval: u64) -> Result<(), Stop>
+        ensures { Gives (λ _. with_receivers receivers.new false) result (messaged line (with_receivers receivers.old false) interval) }
     {
         // `has_interval` takes 16 bits, and an interval of a script has 64
         if !(1..=u64::from(receivers.parameters.last)).contains(&interval) {
             return Err(Stop::Fault(Refusal::OutOfRange));
         }
-        receivers.hear(line, interval as u32)?;
-        Ok(Scene::Open(receivers))
+        receivers.hear(line, interval as u32)
     }
 
-    pub fn obey(self, heap: Global, line: u64, command: Command) -> Result<Scene, Stop>
-        ensures { Gives state_of result (obeyed line (state_of self) (meant command)) }
+    // A command, which has to be in its place.
+    pub fn obey(&mut self, heap: Global, line: u64, command: Command) -> Result<(), Stop>
+        ensures { Gives state_of (in_place self.new result) (obeyed line (state_of self.old) (meant command)) }
     {
-        match (self, command) {
+        match (&mut *self, command) {
             (Scene::Bare, Command::Settings(numbers)) => {
-                Ok(Scene::Settled(Parameters::try_from(numbers)?))
+                *self = Scene::Settled(Parameters::try_from(numbers)?);
             }
-            (Scene::Settled(parameters), Command::Receivers(count)) => Ok(Scene::Open(Receivers {
-                parameters,
-                clocks: receivers::at_zero(heap, count)?,
-                heard: Vec::new(heap),
-            })),
-            (Scene::Open(mut receivers), Command::Clocks(ticks)) => {
-                receivers.tell(ticks.as_slice())?;
-                Ok(Scene::Open(receivers))
+            (Scene::Settled(parameters), Command::Receivers(count)) => {
+                *self = Scene::Open(Receivers {
+                    parameters: *parameters,
+                    clocks: receivers::at_zero(heap, count)?,
+                    heard: Vec::new(heap),
+                });
             }
-            (Scene::Open(mut receivers), Command::Clock { receiver, tick }) => {
+            (Scene::Open(receivers), Command::Clocks(ticks)) => receivers.tell(ticks.as_slice())?,
+            (Scene::Open(receivers), Command::Clock { receiver, tick }) => {
                 receivers.tell_one(receiver, tick)?;
-                Ok(Scene::Open(receivers))
             }
             (Scene::Open(receivers), Command::Message(interval)) => {
-                Scene::message(receivers, line, interval)
+                Scene::message(receivers, line, interval)?;
             }
-            (Scene::Open(receivers), Command::End) => Ok(Scene::Ended(receivers)),
-            _ => Err(Stop::Fault(Refusal::Malformed)),
+            (Scene::Open(_), Command::End) => {
+                // by a swap, since nothing can be moved out of what is lent
+                if let Scene::Open(receivers) = mem::replace(self, Scene::Bare) {
+                    *self = Scene::Ended(receivers);
+                }
+            }
+            _ => return Err(Stop::Fault(Refusal::Malformed)),
         }
+        Ok(())
     }
 }
 
@@ -82,10 +88,10 @@ impl Follow for Scene {
 
     ghost ends = { λ s r. Gives vec_items r (ended (state_of s)) };
 
-    fn follow(self, heap: Global, line: u64, text: &[u8]) -> Result<Scene, Stop> {
+    fn follow(&mut self, heap: Global, line: u64, text: &[u8]) -> Result<(), Stop> {
         match command::parse(heap, text)? {
             Some(command) => self.obey(heap, line, command),
-            None => Ok(self),
+            None => Ok(()),
         }
     }
 

@@ -12,6 +12,11 @@ Steps S = S → (line : ℕ) → (text : List ℕ) → Result S Stop → Type 0
 abbrev pub Ends : (S V : Type 0) → Type 1
 Ends S V = S → Result V Stop → Type 0
 
+-- what stands after a line that is followed in place, or its refusal
+abbrev pub in_place : {S : Type 0} → S → Result Unit Stop → Result S Stop
+in_place s (Ok u) = Ok s
+in_place s (Err e) = Err e
+
 -- what comes of a line: more, or its refusal with its number
 abbrev pub Onward : {S V : Type 0} → (line : ℕ) → (more : S → Type 0) → Result S Stop → Result V Error → Type 0
 Onward n more (Ok s) r = more s

@@ -90,7 +90,7 @@ absorb-append (suc k) n text pad s h =
     rw (add-suc n k, absorb-suc, take-append-le 64 text pad (omega arith), drop-append-le 64 text pad (omega arith), ih, drop-drop (64 * k) 64 text, e)
 
 -- only the low 64 bits of the length count
-padding-low : (n : ℕ) → padding (n % 2 ^ 64) ≡ padding n
+pub padding-low : (n : ℕ) → padding (n % 2 ^ 64) ≡ padding n
 unfolding padding
 padding-low n =
     let a : n % 2 ^ 64 % 64 ≡ n % 64 = omega arith in

@@ -1,16 +1,14 @@
 -- Deeds that are noted.
-use Rattle.std.proofs.Common.{◌≡◌, ℕ, ◌-◌, List, [], ◌∷◌, ◌++◌, Some, None, vec_items, Option, Vec, sym, ap, ◌∙◌, subst, slice_index_or}
-use Rattle.std.specs.declared.alloc.Global.{Global}
+use Rattle.std.proofs.Common.{◌≡◌, ℕ, ◌-◌, List, [], ◌∷◌, ◌++◌, Some, None, vec_items, Option, sym, ap, ◌∙◌, subst, slice_index_or}
 use Rattle.model.specs.Receiver.{Said}
 use Rattle.receiver.specs.declared.state.Receiver.{Receiver}
 use Rattle.orders.specs.declared.command.Command.{Command}
 use Rattle.orders.specs.declared.command.Command.TheVariants as command
 use Rattle.orders.specs.declared.command.Whom.{Whom}
 use Rattle.hearings.specs.declared.event.Deed.{Deed}
-use Rattle.hearings.specs.declared.event.Deed.TheVariants.{Brought}
 use Rattle.hearings.specs.Hearings.{Heard, Brings}
 use Rattle.simulation.specs.declared.cast.Cast.{Cast}
-use Rattle.simulation.specs.Casts.{bytes_of, event_at, Reached, Hears, HearsAgain, Stays, Does, Performed}
+use Rattle.simulation.specs.Casts.{bytes_of, event_at, Reached, Hears, Stays, Does, Performed}
 
 -- noted, or nothing to note
 abbrev pub Noted : (line : ℕ) → Option Deed → (before after : Cast) → Type 0

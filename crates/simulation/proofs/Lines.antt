@@ -1,5 +1,5 @@
 -- A script followed line by line.
-use Rattle.std.proofs.Common.{◌≡◌, ℕ, ◌+◌, Bool, true, false, List, [], ◌∷◌, ◌++◌, length, is_ok, Ok, Err, Result, ◌==◌, sym, refl, ap, ◌∙◌, subst, append_assoc, length-append, arith}
+use Rattle.std.proofs.Common.{◌≡◌, ℕ, ◌+◌, Bool, true, false, List, [], ◌∷◌, ◌++◌, length, is_ok, Ok, Err, Result, Vec, ◌==◌, sym, refl, ap, ◌∙◌, subst, append_assoc, length-append, arith}
 use Rattle.std.proofs.ByRecursion.{All-push}
 use Rattle.std.proofs.lemmas.List.Splits.{length-slice_split}
 use Rattle.std.specs.List.{AllByRecursion}
@@ -10,7 +10,11 @@ use Rattle.script.specs.Stops.{with_line}
 use Rattle.script.specs.declared.error.Error.{Error}
 use Rattle.script.specs.declared.stop.Stop.{Stop}
 use Rattle.script.specs.declared.stop.Stop.TheVariants as stop
-use Rattle.simulation.specs.Plays.{Reads, Why, Followed, FirstFault, PlaysLines, Plays}
+use Rattle.std.specs.declared.alloc.Global.{Global}
+use Rattle.hearings.specs.declared.event.Event.{Event}
+use Rattle.simulation.specs.Plays.{Reads, Why, Followed, PlaysLines, Plays, Concludes}
+use Rattle.simulation.specs.declared.stage.Stage.{Stage}
+use Rattle.simulation.specs.declared.stage.Stage.TheVariants.{Dark}
 
 -- a line that reads has no reason not to
 no_reason : (t : List ℕ) (e : Refusal) → Reads t → Why t e
@@ -55,3 +59,7 @@ whole ends s script r h =
     let P : List (List ℕ) → Type 0 = λ ls. Runs (λ _ _ t q. Followed t q) ends 0 s ls r in
     let Q : List (List ℕ) → Type 0 = λ ls. PlaysLines r ls in
     subst Q (sym p.2) (from_here ends [] p.0 p.1 0 s r refl tt (subst P p.2 h))
+
+-- what is read by the stage is played as the definition says
+pub read_plays : (script : List ℕ) (r : Result (Vec Event Global) Error) → Runs {S = Stage} (λ _ _ t q. Followed t q) Concludes 0 Dark (lines_of script) r → Plays r script
+read_plays script r h = whole Concludes Dark script r h

@@ -8,6 +8,7 @@ use script::reader::read;
 use std::alloc::Global;
 
 // All that happens in a play, in the order of the script; or its first fault, and nothing of it.
+#[tactic(auto, using(crate::proofs::Lines::read_plays))]
 pub fn play(heap: Global, script: &[u8]) -> Result<Vec<Event>, Error>
     ensures { Plays result script.now }
 {

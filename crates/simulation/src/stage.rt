@@ -9,6 +9,7 @@ use orders::line::parse;
 use script::reader::Follow;
 use script::stop::Stop;
 use std::alloc::Global;
+use std::mem;
 use timing::parameters::Parameters;
 use timing::refusal::Refusal;
 
@@ -31,26 +32,29 @@ fn key(bytes: &[u8]) -> Result<Key, Refusal> {
 }
 
 impl Stage {
-    // The stage after a command, which has to be in its place.
-    fn obey(self, heap: Global, line: u64, command: Command) -> Result<Stage, Stop> {
-        match (self, command) {
-            (Stage::Dark, Command::Play) => Ok(Stage::Opened),
+    // A command, which has to be in its place.
+    fn obey(&mut self, heap: Global, line: u64, command: Command) -> Result<(), Stop> {
+        match (&mut *self, command) {
+            (Stage::Dark, Command::Play) => *self = Stage::Opened,
             (Stage::Opened, Command::Settings(numbers)) => {
-                Ok(Stage::Settled(Parameters::try_from(numbers)?))
+                *self = Stage::Settled(Parameters::try_from(numbers)?);
             }
             (Stage::Settled(parameters), Command::Drawn(bytes)) => {
-                Ok(Stage::Drawn(parameters, key(bytes.as_slice())?))
+                *self = Stage::Drawn(*parameters, key(bytes.as_slice())?);
             }
             (Stage::Drawn(parameters, drawn), Command::Receivers(count)) => {
-                Ok(Stage::Playing(Cast::new(heap, parameters, drawn, count)?))
+                *self = Stage::Playing(Cast::new(heap, *parameters, *drawn, count)?);
             }
-            (Stage::Playing(cast), Command::End) => Ok(Stage::Ended(cast.events)),
-            (Stage::Playing(mut cast), command) => {
-                cast.perform(line, command)?;
-                Ok(Stage::Playing(cast))
+            (Stage::Playing(_), Command::End) => {
+                // by a swap, since nothing can be moved out of what is lent
+                if let Stage::Playing(cast) = mem::replace(self, Stage::Dark) {
+                    *self = Stage::Ended(cast.events);
+                }
             }
-            _ => Err(Stop::Fault(Refusal::Malformed)),
+            (Stage::Playing(cast), command) => cast.perform(line, command)?,
+            _ => return Err(Stop::Fault(Refusal::Malformed)),
         }
+        Ok(())
     }
 }
 
@@ -61,10 +65,10 @@ impl Follow for Stage {
 
     ghost ends = { Concludes };
 
-    fn follow(self, heap: Global, line: u64, text: &[u8]) -> Result<Stage, Stop> {
+    fn follow(&mut self, heap: Global, line: u64, text: &[u8]) -> Result<(), Stop> {
         match parse(heap, text)? {
             Some(command) => self.obey(heap, line, command),
-            None => Ok(self),
+            None => Ok(()),
         }
     }
 

@@ -6,6 +6,7 @@ use script::reader;
 use script::reader::Follow;
 use script::stop::Stop;
 use std::alloc::Global;
+use std::mem;
 use timing::parameters::Parameters;
 use timing::refusal::Refusal;
 
@@ -39,36 +40,39 @@ enum Stage {
 }
 
 impl Stage {
-    // The stage after a command, which has to be in its place.
-    fn obey(self, heap: Global, command: Command) -> Result<Stage, Stop> {
-        match (self, command) {
+    // A command, which has to be in its place.
+    fn obey(&mut self, heap: Global, command: Command) -> Result<(), Stop> {
+        match (&mut *self, command) {
             (Stage::Start, Command::Settings(numbers)) => {
-                Ok(Stage::Settled(Parameters::try_from(numbers)?))
+                *self = Stage::Settled(Parameters::try_from(numbers)?);
             }
             (Stage::Settled(parameters), Command::Drawn(key)) => {
                 let drawn = <[u8; 32]>::try_from(key.as_slice()).map_err(|_| Refusal::Malformed)?;
-                let deeds = Vec::new(heap);
                 let script = Script {
-                    parameters,
+                    parameters: *parameters,
                     drawn,
-                    deeds,
+                    deeds: Vec::new(heap),
                 };
-                Ok(Stage::Drawn(script, 0))
+                *self = Stage::Drawn(script, 0);
             }
-            (Stage::Drawn(mut script, time), Command::Time(tick)) => {
-                if tick < time {
+            (Stage::Drawn(script, time), Command::Time(tick)) => {
+                if tick < *time {
                     return Err(Stop::Fault(Refusal::ClockBack));
                 }
                 script.deeds.push(Deed::Time(tick))?;
-                Ok(Stage::Drawn(script, tick))
+                *time = tick;
             }
-            (Stage::Drawn(mut script, time), Command::Say(text)) => {
-                script.deeds.push(Deed::Say(text))?;
-                Ok(Stage::Drawn(script, time))
-            }
-            (Stage::Drawn(script, _), Command::End) => Ok(Stage::Ended(script)),
-            (Stage::Start | Stage::Settled(_), Command::End) => Ok(Stage::Cut),
-            _ => Err(Stop::Fault(Refusal::Malformed)),
+            (Stage::Drawn(script, _), Command::Say(text)) => script.deeds.push(Deed::Say(text))?,
+            (Stage::Start | Stage::Settled(_) | Stage::Drawn(..), Command::End) => self.end(),
+            _ => return Err(Stop::Fault(Refusal::Malformed)),
+        }
+        Ok(())
+    }
+
+    // `end` was read; before the drawn key it is too early.
+    fn end(&mut self) {
+        if let Stage::Drawn(script, _) = mem::replace(self, Stage::Cut) {
+            *self = Stage::Ended(script);
         }
     }
 }
@@ -80,10 +84,10 @@ impl Follow for Stage {
 
     ghost ends = { λ _ _. Unit {0} };
 
-    fn follow(self, heap: Global, _line: u64, text: &[u8]) -> Result<Stage, Stop> {
+    fn follow(&mut self, heap: Global, _line: u64, text: &[u8]) -> Result<(), Stop> {
         match parse(heap, text)? {
             Some(command) => self.obey(heap, command),
-            None => Ok(self),
+            None => Ok(()),
         }
     }
 

@@ -1,18 +1,19 @@
 -- Fates counted.
-use Rattle.std.proofs.Common.{◌≡◌, ℕ, ◌+◌, ◌-◌, ◌*◌, ◌<◌, ◌≤◌, Bool, true, false, cond, not, ◌&&◌, count_by, List, [], ◌∷◌, length, get_or, take, drop, sym, refl, ap, ◌∙◌, subst, add-mul, arith}
+use Rattle.std.proofs.Common.{◌≡◌, ℕ, ◌+◌, ◌-◌, ◌*◌, ◌<◌, ◌≤◌, ◌^◌, Bool, true, false, cond, not, ◌&&◌, count_by, List, [], ◌∷◌, length, get_or, take, drop, sym, refl, ap, ◌∙◌, subst, add-mul, arith}
 use Rattle.std.proofs.lemmas.Nat.{mul-le}
 use Rattle.std.proofs.ByRecursion.{All-get_or, All-from_get_or}
 use Rattle.std.proofs.lemmas.List.{length-take-le, length-drop, get_or-take, get_or-drop}
 use Rattle.std.proofs.lemmas.List.Sums.{sum_by-cons}
 use Rattle.std.proofs.lemmas.Bool.{false≢true, cond-true, and_from, le-leb}
-use Rattle.std.specs.List.{AllByRecursion}
+use Rattle.std.specs.List.{AllByRecursion, fold}
 use Rattle.timing.specs.Time.{Params}
 use Rattle.model.specs.Receiver.{Message}
 use Rattle.stage.specs.declared.event.Event.{Event}
 use Rattle.verdicts.specs.Fates.{no_fate, fate_of, row_of, AreFates}
 use Rattle.verdicts.specs.Laws.{Believed, ByAll, BelievedByAll, VerdictsHold}
-use Rattle.verdicts.specs.Verdicts.{believes, lacks_key, lacks_room, verdict_of}
+use Rattle.verdicts.specs.Verdicts.{believes, lacks_key, lacks_room, verdict_of, one_more_if, with_fate, nothing, tallied}
 use Rattle.verdicts.specs.declared.fate.Fate.{Fate}
+use Rattle.verdicts.specs.declared.fate.Verdict.{Verdict}
 
 count_cons : (is : Fate → Bool) (f : Fate) (fs : List Fate) → count_by is (f ∷ fs) ≡ cond (is f) 1 0 + count_by is fs
 count_cons is f fs = sum_by-cons (λ x. cond (is x) 1 0) f fs
@@ -29,6 +30,50 @@ once f = by_flags f.in_time f.delivered f.buffered where
   by_flags true false true = refl
   by_flags true false false = refl
   by_flags false d b = refl
+
+-- no number reaches the most of 64 bits
+abbrev Fits : Verdict → ℕ → Type 0
+Fits v k = (v.reached + k < 2 ^ 64) × (v.believed + k < 2 ^ 64) × (v.no_room + k < 2 ^ 64) × (v.no_key + k < 2 ^ 64) × (v.outside + k < 2 ^ 64)
+
+added : (b : Bool) (n k : ℕ) → n + (k + 1) < 2 ^ 64 → (one_more_if b n ≡ n + one b) × (one_more_if b n + k < 2 ^ 64)
+added true n k h = (omega (arith, h), omega (arith, h))
+added false n k h = (omega (arith, h), omega (arith, h))
+
+abbrev plus : Verdict → Verdict → Verdict
+plus v w = record { reached = v.reached + w.reached; believed = v.believed + w.believed; no_room = v.no_room + w.no_room; no_key = v.no_key + w.no_key; outside = v.outside + w.outside }
+
+abbrev verdict_by : (reached believed room key outside : ℕ) → Verdict
+verdict_by a b c d e = record { reached = a; believed = b; no_room = c; no_key = d; outside = e }
+
+by_numbers : (v w : Verdict) → v.reached ≡ w.reached → v.believed ≡ w.believed → v.no_room ≡ w.no_room → v.no_key ≡ w.no_key → v.outside ≡ w.outside → v ≡ w
+by_numbers v w a b c d e =
+    ap (λ z. verdict_by z v.believed v.no_room v.no_key v.outside) a
+    ∙ ap (λ z. verdict_by w.reached z v.no_room v.no_key v.outside) b
+    ∙ ap (λ z. verdict_by w.reached w.believed z v.no_key v.outside) c
+    ∙ ap (λ z. verdict_by w.reached w.believed w.no_room z v.outside) d
+    ∙ ap (λ z. verdict_by w.reached w.believed w.no_room w.no_key z) e
+
+-- what the fates add to what was counted
+counted : (fs : List Fate) (v : Verdict) → Fits v (length fs) → fold with_fate v fs ≡ plus v (verdict_of fs)
+unfolding with_fate
+counted [] v h = by_numbers v (plus v (verdict_of [])) (omega arith) (omega arith) (omega arith) (omega arith) (omega arith)
+counted (f ∷ fs) v h =
+    let a = added f.in_time v.reached (length fs) (omega (arith, h.0)) in
+    let b = added (believes f) v.believed (length fs) (omega (arith, h.1)) in
+    let c = added (lacks_room f) v.no_room (length fs) (omega (arith, h.2)) in
+    let d = added (lacks_key f) v.no_key (length fs) (omega (arith, h.3)) in
+    let e = added f.outside v.outside (length fs) (omega (arith, h.4)) in
+    counted fs (with_fate v f) (a.1, b.1, c.1, d.1, e.1)
+    ∙ by_numbers (plus (with_fate v f) (verdict_of fs)) (plus v (verdict_of (f ∷ fs)))
+    (omega (arith, a.0, count_cons (λ g. g.in_time) f fs))
+    (omega (arith, b.0, count_cons believes f fs))
+    (omega (arith, c.0, count_cons lacks_room f fs))
+    (omega (arith, d.0, count_cons lacks_key f fs))
+    (omega (arith, e.0, count_cons (λ g. g.outside) f fs))
+
+pub tallied_whole : (fs : List Fate) → length fs < 2 ^ 64 → tallied fs ≡ verdict_of fs
+unfolding nothing
+tallied_whole fs h = counted fs nothing (omega (arith, h), omega (arith, h), omega (arith, h), omega (arith, h), omega (arith, h)) ∙ by_numbers (plus nothing (verdict_of fs)) (verdict_of fs) (omega arith) (omega arith) (omega arith) (omega arith) (omega arith)
 
 parts : (fs : List Fate) → (verdict_of fs).reached ≡ (verdict_of fs).believed + (verdict_of fs).no_key + (verdict_of fs).no_room
 parts [] = refl

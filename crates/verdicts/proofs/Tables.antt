@@ -26,7 +26,7 @@ pub is_there_lem : (ms rs k n : ℕ) → 1 ≤ k → k ≤ ms → 1 ≤ n → n 
 is_there_lem ms rs k n a b c d = record { some_message = a; few_messages = b; some_receiver = c; few_receivers = d }
 
 -- two pairs have two places
-same_pair : (ms rs : ℕ) (x y : Pair) → IsThere ms rs x → IsThere ms rs y → place_of rs x.message x.receiver ≡ place_of rs y.message y.receiver → (x.message ≡ y.message) × (x.receiver ≡ y.receiver)
+pub same_pair : (ms rs : ℕ) (x y : Pair) → IsThere ms rs x → IsThere ms rs y → place_of rs x.message x.receiver ≡ place_of rs y.message y.receiver → (x.message ≡ y.message) × (x.receiver ≡ y.receiver)
 same_pair ms rs x y t u e = let s = same_from_place (x.message - 1) (x.receiver - 1) (y.message - 1) (y.receiver - 1) rs (omega arith) (omega arith) e in (omega arith, omega arith)
 
 -- an event that tells of another pair, of this one, or of none

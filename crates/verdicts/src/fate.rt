@@ -1,6 +1,7 @@
 // What became of one message at one receiver.
 ghost use Rattle.std.specs.Prelude.{◌≡◌};
 ghost use Rattle.verdicts.specs.Fates.{reached_by, pair_of};
+ghost use Rattle.verdicts.specs.Verdicts.{believes, lacks_key, lacks_room};
 
 use receiver::outcome::{Accepted, Outcome};
 use stage::event::Deed;
@@ -30,6 +31,27 @@ impl Fate {
             no_room: self.no_room || matches!(outcome, Err(Refusal::NoRoom)),
             ..self
         }
+    }
+
+    // Whether the receiver has it in time and believes it.
+    pub(crate) fn believes(self) -> bool
+        ensures { result ≡ believes self }
+    {
+        self.in_time && self.delivered
+    }
+
+    // Whether it has it in time and buffered, and no key came.
+    pub(crate) fn lacks_key(self) -> bool
+        ensures { result ≡ lacks_key self }
+    {
+        self.in_time && !self.delivered && self.buffered
+    }
+
+    // Whether it has it in time and had no room.
+    pub(crate) fn lacks_room(self) -> bool
+        ensures { result ≡ lacks_room self }
+    {
+        self.in_time && !self.delivered && !self.buffered
     }
 }
 
@@ -62,11 +84,29 @@ impl Pair {
 
 // Of one message, over all receivers: how many it reached in time, and of those how many believe it, and why the others don't:
 // there was no room, or no key came; and how many it reached in time with clocks outside of their error.
-#[derive(Clone, Copy, PartialEq, Eq, Debug, Drop)]
+#[derive(Clone, Copy, PartialEq, Eq, Debug, Default, Drop)]
 pub struct Verdict {
     pub reached: usize,
     pub believed: usize,
     pub no_room: usize,
     pub no_key: usize,
     pub outside: usize,
+}
+
+impl Verdict {
+    ghost use Rattle.verdicts.specs.Verdicts.{with_fate};
+
+    // With one fate more. No number is above that of the fates, so none reaches the most.
+    #[tactic(auto, unfolding(crate::specs::Verdicts::with_fate))]
+    pub(crate) fn with(self, fate: Fate) -> Verdict
+        ensures { result ≡ with_fate self fate }
+    {
+        Verdict {
+            reached: self.reached.saturating_add(usize::from(fate.in_time)),
+            believed: self.believed.saturating_add(usize::from(fate.believes())),
+            no_room: self.no_room.saturating_add(usize::from(fate.lacks_room())),
+            no_key: self.no_key.saturating_add(usize::from(fate.lacks_key())),
+            outside: self.outside.saturating_add(usize::from(fate.outside)),
+        }
+    }
 }

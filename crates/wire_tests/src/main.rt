@@ -9,7 +9,6 @@ mod tally;
 
 use formats::{Delivery, Format, FromAir, Setup, Tick};
 use records::Case;
-use std::alloc::{AllocError, Global};
 use std::io;
 use tally::Tally;
 use timing::parameters::Parameters;
@@ -34,35 +33,43 @@ fn cut<F: Format>(bytes: &[u8]) -> Tally {
     tally
 }
 
-fn longer<F: Format>(heap: Global, bytes: &[u8]) -> Result<Tally, AllocError> {
+// In fixed memory, as `changed`: what is tried can't run out of any.
+fn longer<F: Format>(bytes: &[u8]) -> Tally {
     let mut tally = Tally::default();
-    let mut more = Vec::from_slice(heap, bytes)?;
-    more.push(0)?;
-    tally.add(F::again(more.as_slice()));
-    Ok(tally)
+    let mut memory = [0; 256];
+    if bytes.len() < memory.len() {
+        memory[..bytes.len()].copy_from_slice(bytes);
+        tally.add(F::again(&memory[..bytes.len() + 1]));
+    }
+    tally
 }
 
-fn changed<F: Format>(heap: Global, bytes: &[u8]) -> Result<Tally, AllocError> {
+fn changed<F: Format>(bytes: &[u8]) -> Tally {
     let mut tally = Tally::default();
+    let mut memory = [0; 256];
+    let Some(record) = memory.get_mut(..bytes.len()) else {
+        return tally;
+    };
+    record.copy_from_slice(bytes);
     for (i, byte) in bytes.iter().enumerate() {
         for other in 0..=255u8 {
             if other != *byte {
-                let mut changed = Vec::from_slice(heap, bytes)?;
-                changed[i] = other;
-                tally.add(F::again(changed.as_slice()));
+                record[i] = other;
+                tally.add(F::again(record));
             }
         }
+        record[i] = *byte;
     }
-    Ok(tally)
+    tally
 }
 
-fn try_case<F: Format>(rt: &impl Print, heap: Global, case: Case<'_>) -> io::Result<()> {
+fn try_case<F: Format>(rt: &impl Print, case: Case<'_>) -> io::Result<()> {
     let Case { name, bytes } = case;
     println!(rt; "{name}, whole: {}", whole::<F>(bytes))?;
     F::show(rt, bytes)?;
     println!(rt; "{name}, cut: {}", cut::<F>(bytes))?;
-    println!(rt; "{name}, longer: {}", longer::<F>(heap, bytes)?)?;
-    println!(rt; "{name}, changed: {}", changed::<F>(heap, bytes)?)
+    println!(rt; "{name}, longer: {}", longer::<F>(bytes))?;
+    println!(rt; "{name}, changed: {}", changed::<F>(bytes))
 }
 
 // Intervals and indices at their limits: the number of the refusal, or 0, and the interval of the key that is still handed on.
@@ -119,14 +126,13 @@ fn read_text(count: u8) -> u8 {
 }
 
 fn main(rt: HostRuntime) -> io::Result<()> {
-    let heap = rt.alloc();
     for case in records::from_air() {
-        try_case::<FromAir>(&rt, heap, case)?;
+        try_case::<FromAir>(&rt, case)?;
     }
-    try_case::<Tick>(&rt, heap, records::tick())?;
-    try_case::<Delivery>(&rt, heap, records::delivery())?;
+    try_case::<Tick>(&rt, records::tick())?;
+    try_case::<Delivery>(&rt, records::delivery())?;
     for case in records::settings() {
-        try_case::<Setup>(&rt, heap, case)?;
+        try_case::<Setup>(&rt, case)?;
     }
     show_texts(&rt)?;
     match Parameters::new(60, 2, 5, 1000) {
