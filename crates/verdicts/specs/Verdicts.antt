@@ -20,7 +20,7 @@ abbrev pub verdict_of : List Fate → Verdict
 verdict_of fs =
     record { reached = count_by (λ f. f.in_time) fs; believed = count_by believes fs; no_room = count_by lacks_room fs; no_key = count_by lacks_key fs; outside = count_by (λ f. f.outside) fs }
 
--- no fate
+-- counted before any fate
 unfoldable pub nothing : Verdict
 nothing = record { reached = 0; believed = 0; no_room = 0; no_key = 0; outside = 0 }
 
@@ -33,6 +33,6 @@ unfoldable pub with_fate : Verdict → Fate → Verdict
 with_fate v f =
     record { reached = one_more_if f.in_time v.reached; believed = one_more_if (believes f) v.believed; no_room = one_more_if (lacks_room f) v.no_room; no_key = one_more_if (lacks_key f) v.no_key; outside = one_more_if f.outside v.outside }
 
--- fate after fate
+-- fate after fate: the same, as `tallied_whole` of proofs/ shows
 abbrev pub tallied : List Fate → Verdict
 tallied fs = fold with_fate nothing fs
